@@ -1,0 +1,3 @@
+pub mod Lining
+pub mod Reporting
+pub mod Saying

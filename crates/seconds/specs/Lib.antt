@@ -1,0 +1,3 @@
+pub mod Seconds
+pub mod Laws
+pub mod Report
