@@ -1,7 +1,7 @@
 -- A line is answered by what it says, and by nothing else. Assumes nothing.
 use mathlib.Core.Path.{_≡_, refl, sym, ap, _∙_}
-use mathlib.Core.Bool.{true, false}
-use mathlib.Core.List.{List, [], _∷_, _++_}
+use mathlib.Core.Bool.{false}
+use mathlib.Core.List.{List, [], _∷_}
 use mathlib.Core.Logic.{inl, inr}
 use Prim.Native.Nat.{ℕ, _+_, _*_, _^_, _<_, _≤_}
 use native.Mathlib.Omega.{arith}
@@ -9,16 +9,13 @@ use lib.ListN.{length}
 use Rattle.std.proofs.shelf.Lists.{append-nil}
 use Rattle.std.proofs.shelf.Tests.{cases-bool, cases-lt, lt-ltb, le-ltb}
 use Rattle.std.proofs.shelf.Ways.{tells}
-use Rattle.std.specs.Options.{valueOr}
-use Rattle.std.specs.declared.option.Option.{Option}
-use Rattle.std.specs.declared.option.Option.the-variants.{Some, None}
-use Rattle.std.specs.declared.result.Result.the-variants.{Ok, Err}
+use Rattle.std.specs.declared.result.Result.the-variants.{Ok}
 use Rattle.units.specs.declared.unit.Unit.the-variants.{Second}
 use Rattle.units.specs.Table.{ns}
-use Rattle.digits.specs.Numbers.{is-digit, is-separator, number, billionths, front, behind, prefix-by, fraction-by, temporal-fraction}
-use Rattle.digits.specs.Laws.{Front, digit-leads}
+use Rattle.digits.specs.Numbers.{is-separator, number, billionths, front, behind, prefix-by, fraction-by, temporal-fraction}
+use Rattle.digits.specs.Laws.{digit-leads}
 use Rattle.digits.proofs.Fronts.{front-law, front-only}
-use Rattle.seconds.specs.Seconds.{ended, with-fraction, by-prefix, seconds}
+use Rattle.seconds.specs.Seconds.{with-fraction, by-prefix, seconds}
 use Rattle.seconds.specs.Laws.{Digits, Ends, Says, Reads}
 
 nothing : billionths [] ≡ 0

@@ -1,16 +1,17 @@
 -- The rule of the table of units: each part is one test that computes over all units. Assumes nothing.
 use mathlib.Core.Path.{_≡_, refl, sym}
 use mathlib.Core.Bool.{Bool, true, false, not, _&&_, _||_}
-use Prim.Native.Nat.{ℕ, _*_, _/_, _^_, _<_, _≤_}
+use Prim.Native.Nat.{_*_, _/_, _^_}
 use native.Mathlib.Omega.{arith}
 use lib.Dec.{leb, ltb, eqb}
-use Rattle.std.proofs.shelf.Tests.{and-parts, eqb-true, ltb-true, le-leb, lt-ltb}
+use Rattle.std.proofs.shelf.Maps.{nth-past}
+use Rattle.std.proofs.shelf.Tests.{ltb-true}
 use Rattle.std.proofs.shelf.Ways.{tells}
 use Rattle.std.specs.Options.{isSome}
-use Rattle.std.specs.declared.option.Option.the-variants.{Some, None}
+use Rattle.std.specs.declared.option.Option.the-variants.{Some}
 use Rattle.units.specs.declared.unit.Unit.{Unit as TimeUnit}
 use Rattle.units.specs.declared.unit.Unit.the-variants.{Nanosecond, Microsecond, Millisecond, Second, Minute, Hour, Day, Week, Month, Year}
-use Rattle.units.specs.Table.{code, nanoseconds, ns, span-limit, unit-of, Table-rule}
+use Rattle.units.specs.Table.{units, code, nanoseconds, ns, span-limit, unit-of, Table-rule}
 
 -- the test f passes at every unit
 abbrev all : (TimeUnit → Bool) → Bool
@@ -61,6 +62,7 @@ from-alike false false e = refl
 pub table-rule : Table-rule
 table-rule = record {
   coded = coded;
+  beyond = λ c h. nth-past units c (omega arith);
   clock = λ u. from-alike _ _ (at (λ v. alike (isSome (nanoseconds v)) (leb (code v) (code Hour))) refl u);
   whole = λ u v h. let e = at (whole u) (at (λ w. all (whole w)) refl u) v in (ns v / ns u, grind (arith, tells));
   limited = λ u. ltb-true _ _ (at (λ v. ltb (span-limit v) (2 ^ 63)) refl u);

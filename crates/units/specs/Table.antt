@@ -60,6 +60,8 @@ unit-of c = nth units c
 pub record Table-rule : Type 0 where
   -- a unit's code is its place among the units, so no two units share one
   pub coded : (u : TimeUnit) → unit-of (code u) ≡ Some u
+  -- a code above 9 has no unit
+  pub beyond : (c : ℕ) → 9 < c → unit-of c ≡ None
   -- the clock units are those up to Hour
   pub clock : (u : TimeUnit) → isSome (nanoseconds u) ≡ leb (code u) (code Hour)
   -- a clock unit is a whole number of each smaller one

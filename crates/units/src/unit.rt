@@ -43,10 +43,10 @@ const UNITS: [Unit; 10] = [
 
 // What the table says of one unit. A calendar unit has no fixed number of nanoseconds.
 #[derive(Clone, Copy)]
-pub struct Row {
-    pub code: u8,
-    pub nanoseconds: Option<u64>,
-    pub span_limit: u64,
+struct Row {
+    code: u8,
+    nanoseconds: Option<u64>,
+    span_limit: u64,
 }
 
 impl Row {

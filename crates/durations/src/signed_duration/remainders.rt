@@ -1,5 +1,4 @@
 // Signed durations as a count of a unit, cut toward zero, and what is left.
-ghost use mathlib.Core.Path.{_≡_};
 ghost use Prim.Native.Nat.{_*_};
 ghost use lib.IntN.{pos, natAbs};
 ghost use lib.Signed.{_<ℤ_, _≤ℤ_};

@@ -1,9 +1,8 @@
-use mathlib.Core.Path.{_≡_}
-use lib.IntN.{_*ℤ_, _+ℤ_}
+use lib.IntN.{_*ℤ_}
 use mir.Syntax.{w64}
 use mir.Val.{SFits}
 use Rattle.std.proofs.shelf.Signed.{toZ-ofZ}
-use Rattle.durations.proofs.Parting.{product-within}
+use Rattle.durations.proofs.Ranges.{product-within}
 use Rattle.durations.proofs.ratios.times_plus.Needs as need
 
 pub returns-in-rest : need.returns-in-rest

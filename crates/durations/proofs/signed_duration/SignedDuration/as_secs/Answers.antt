@@ -1,5 +1,5 @@
 use borrow.Author.Needs.{needs}
-use Rattle.durations.proofs.Parting.{fits}
+use Rattle.durations.proofs.Ranges.{fits}
 use Rattle.durations.proofs.signed_duration.SignedDuration.as_secs.Needs as need
 
 pub returns : need.returns

@@ -1,12 +1,12 @@
 use borrow.Author.Needs.{needs}
 use mathlib.Core.Path.{_≡_, _∙_}
-use lib.IntN.{pos, natAbs, _+ℤ_, _*ℤ_}
+use lib.IntN.{pos, _+ℤ_, _*ℤ_}
 use lib.Signed.{quotZ, remZ}
 use mir.Syntax.{w32, w64}
 use mir.Val.{SFits}
 use Rattle.std.proofs.shelf.Signed.{toZ-ofZ}
 use Rattle.durations.specs.Totals.{total}
-use Rattle.durations.proofs.Parting.{wide, carried, carried-out, rest-small, fits}
+use Rattle.durations.proofs.Ranges.{wide, carried, carried-out, rest-small, fits}
 use Rattle.durations.proofs.signed_duration.SignedDuration.balanced.Needs as need
 
 pub returns-in-rest : need.returns-in-rest

@@ -1,10 +1,10 @@
 use borrow.Author.Needs.{needs}
 use mathlib.Core.Path.{_≡_}
-use lib.IntN.{pos, _+ℤ_, _*ℤ_}
-use mir.Syntax.{w32, w64}
+use lib.IntN.{_+ℤ_}
+use mir.Syntax.{w64}
 use mir.Val.{SFits}
 use Rattle.std.proofs.shelf.Signed.{toZ-ofZ}
-use Rattle.durations.proofs.Parting.{sums, small-fits, sum-fits, sum-within}
+use Rattle.durations.proofs.Ranges.{sums, small-fits, sum-fits, sum-within}
 use Rattle.durations.proofs.signed_duration.SignedDuration.checked_add.Needs as need
 
 pub add-self : need.add-self

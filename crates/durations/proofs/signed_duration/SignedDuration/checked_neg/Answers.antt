@@ -7,7 +7,7 @@ use mir.Syntax.{w32, w64}
 use mir.Val.{SFits}
 use Rattle.std.proofs.shelf.Signed.{toZ-ofZ}
 use Rattle.durations.specs.Totals.{total}
-use Rattle.durations.proofs.Parting.{negated, negated-small, small-fits, lowest-alone, lowest, negated-out, fits}
+use Rattle.durations.proofs.Ranges.{negated, negated-small, small-fits, lowest-alone, lowest, negated-out, fits}
 use Rattle.durations.proofs.signed_duration.SignedDuration.checked_neg.Needs as need
 
 pub returns-in-rest : need.returns-in-rest

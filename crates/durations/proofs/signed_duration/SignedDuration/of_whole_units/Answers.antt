@@ -1,12 +1,13 @@
 use borrow.Author.Needs.{needs}
-use mathlib.Core.Path.{_≡_, _∙_, ap}
+use mathlib.Core.Path.{_≡_}
 use native.Mathlib.Omega.{arith}
 use lib.IntN.{pos, _*ℤ_}
 use mir.Syntax.{w64}
 use mir.Val.{SFits}
 use Rattle.std.proofs.shelf.Signed.{ints, toZ-ofZ}
 use Rattle.durations.specs.Totals.{total}
-use Rattle.durations.proofs.Parting.{in-seconds, fits-secs}
+use Rattle.durations.proofs.Parting.{in-seconds}
+use Rattle.durations.proofs.Ranges.{fits-secs}
 use Rattle.durations.proofs.signed_duration.SignedDuration.of_whole_units.Needs as need
 
 pub returns-in-rest : need.returns-in-rest

@@ -1,5 +1,5 @@
 use borrow.Author.Needs.{needs}
-use mathlib.Core.Path.{_≡_, _∙_, ap}
+use mathlib.Core.Path.{_≡_}
 use lib.IntN.{natAbs}
 use mir.Syntax.{w32, w64}
 use mir.Val.{SFits}
