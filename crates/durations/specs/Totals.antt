@@ -1,16 +1,16 @@
 -- What a signed duration means. Assumes nothing: these are definitions.
---     total d       how many nanoseconds d lasts, of either sign
---     lowest-total  how far below 0 a total can be
---     highest-total how far above 0 a total can be
---     Fits z        z is between these two
---     Exact r z     r lasts exactly z, or is absent because z does not fit
---     Count z       z is an i64
---     Split n z p   p counts the whole n's in z, cut toward zero, and has a duration of what is left
---     Counted n z r the same, or absent because the count is no i64
---     Cut n z q r   q whole n's and r more make up z, nearer to 0 than z or there
---     Cuts          Split's quotient and rest are such
---     Per-second k m  k units of m nanoseconds are a second
---     One-side s n  neither is above 0 while the other is below
+--     total d        how many nanoseconds d lasts, of either sign
+--     lowest-total   how far below 0 a total can be
+--     highest-total  how far above 0 a total can be
+--     Fits z         z is between these two
+--     Exact r z      r lasts exactly z, or is absent because z does not fit
+--     Count z        z is an i64
+--     Split n z p    p counts the whole n's in z, cut toward zero, and has a duration of what is left
+--     Counted n z r  the same, or absent because the count is no i64
+--     Cut n z q r    q whole n's and r more make up z, less than one n is left, and neither passes z or 0
+--     Cuts           the quotient and the rest in Split are such
+--     One-side s n   neither is above 0 while the other is below
+--     Per-second k m k units of m nanoseconds are a second
 use mathlib.Core.Path.{_≡_}
 use Prim.Native.Nat.{ℕ, _^_, _-_, _+_, _*_, _<_}
 use lib.IntN.{ℤ, pos, negℤ, natAbs, _+ℤ_, _*ℤ_}

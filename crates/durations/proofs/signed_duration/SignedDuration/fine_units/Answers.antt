@@ -9,6 +9,7 @@ use mir.Val.{SFits}
 use Rattle.std.proofs.shelf.Signed.{ints, toZ-ofZ}
 use Rattle.durations.specs.Totals.{total, Count}
 use Rattle.durations.proofs.Parting.{fine}
+use Rattle.durations.proofs.Ranges.{small-fits, wide}
 use Rattle.durations.proofs.signed_duration.SignedDuration.fine_units.Needs as need
 
 pub returns-in-rest : need.returns-in-rest
@@ -17,11 +18,11 @@ returns-in-rest c = λ count.
     let k = c .args .per-sec in
     let m = c .args .nanos-each in
     let fs : SFits w64 (d .secs) = search needs in
-    let fk : SFits w64 k = search needs in
-    let fp : SFits w32 (d .nanos) = search needs in
-    let fm : SFits w32 m = search needs in
-    let wp : SFits w64 (d .nanos) = omega (arith, ints) in
-    let wm : SFits w64 m = omega (arith, ints) in
+    let fk = c .fits .per-sec in
+    let fp = small-fits (d .nanos) (d .small) in
+    let fm = c .fits .nanos-each in
+    let wp = wide (d .nanos) fp in
+    let wm = wide m fm in
     let fu : SFits w64 (c .cut-units .result .0) = search needs in
     let units : c .cut-units .result .0 ≡ quotZ (d .nanos) m = simp toZ-ofZ at (c .cut-units .ensures .whole) in
     let parts = fine (d .secs) (d .nanos) k m (c .pre) (search needs) in
@@ -31,8 +32,8 @@ returns-in-rest c = λ count.
 pub of-parts-rest-requires : need.of-parts-rest-requires
 of-parts-rest-requires c κs =
     let m = c .args .nanos-each in
-    let fm : SFits w32 m = search needs in
-    let wm : SFits w64 m = omega (arith, ints) in
+    let fm = c .fits .nanos-each in
+    let wm = wide m fm in
     let fr : SFits w32 (c .cut-units .result .1) = search needs in
     let short : natAbs (c .cut-units .result .1) < natAbs m = simp toZ-ofZ at (c .cut-units .ensures .short) in
     simp toZ-ofZ (omega (arith, ints))
@@ -43,11 +44,11 @@ returns c =
     let k = c .args .per-sec in
     let m = c .args .nanos-each in
     let fs : SFits w64 (d .secs) = search needs in
-    let fk : SFits w64 k = search needs in
-    let fp : SFits w32 (d .nanos) = search needs in
-    let fm : SFits w32 m = search needs in
-    let wp : SFits w64 (d .nanos) = omega (arith, ints) in
-    let wm : SFits w64 m = omega (arith, ints) in
+    let fk = c .fits .per-sec in
+    let fp = small-fits (d .nanos) (d .small) in
+    let fm = c .fits .nanos-each in
+    let wp = wide (d .nanos) fp in
+    let wm = wide m fm in
     let fu : SFits w64 (c .cut-units .result .0) = search needs in
     let fr : SFits w32 (c .cut-units .result .1) = search needs in
     let fc : SFits w64 (c .in-Some .count) = search needs in
