@@ -1,7 +1,8 @@
 -- The law of reading a line of seconds. Assumes nothing: these are statements.
---     Ends s part bs  bs is a separator s and the digits part, or nothing if there are none
+--     Digits ds       every byte of ds is a digit
+--     Ends rest part  rest is a separator and the bytes part, of which there is one at least, or both are nothing
 --     Says bs n       the line bs says n nanoseconds: digits, and perhaps a separator and one to nine digits more
---     Reads bs r      the line bs is answered by n nanoseconds exactly when it says them
+--     Reads bs r      r, the answer to the line bs, is n nanoseconds exactly when the line says them
 use mathlib.Core.Path.{_≡_}
 use mathlib.Core.Bool.{true}
 use mathlib.Core.List.{List, [], _∷_, _++_}

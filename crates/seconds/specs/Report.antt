@@ -1,10 +1,13 @@
 -- The report on lines of seconds. Assumes nothing: these are definitions.
+--     onto b ls     the lines ls with the byte b put before the first
 --     lines bs      the lines of bs; a line feed ends a line, and one at the end starts no further line
 --     answer-text r what is printed of an answer
+--     line-text n l what is printed of the line l, the n-th
+--     numbered n ls the same of each of ls, counted from n
 --     time r        the nanoseconds of an answer, none if it is a refusal
---     numbered n ls a printed line for each of ls, counted from n
 --     sum ls        the nanoseconds that the lines say together; one that is refused adds nothing
---     summed ls     the same as an answer, refused where no duration lasts so long
+--     in-range n    n nanoseconds as an answer, refused where no duration lasts so long
+--     summed ls     the same of the sum
 --     report bs     what is printed on the input bs
 use mathlib.Core.Bool.{cond}
 use mathlib.Core.List.{List, [], _∷_, _++_}
@@ -24,7 +27,6 @@ use Rattle.durations.specs.Shown.{shown}
 use Rattle.durations.specs.Totals.{highest-total}
 use Rattle.seconds.specs.Seconds.{seconds}
 
--- a byte put before the first line
 abbrev pub onto : ℕ → List (List ℕ) → List (List ℕ)
 onto b [] = (b ∷ []) ∷ []
 onto b (l ∷ ls) = (b ∷ l) ∷ ls

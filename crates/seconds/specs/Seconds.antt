@@ -1,7 +1,10 @@
 -- What a line of seconds says. Assumes nothing: these are definitions.
---     seconds bs  the nanoseconds that the line bs says, or why it is refused:
---                 a number, below 2^63, then a fraction if there is one, then nothing
---     Is r a      the result r of the code is the answer a, its duration read by its total
+--     ended n f bs       n seconds and the fraction f, if nothing is left over in bs
+--     with-fraction n r  the same once the fraction and the bytes after it are read as r
+--     with-number o bs   the same once the number o is read, which must be there and below 2^63
+--     by-prefix r        the same once the number and the bytes after it are read as r
+--     seconds bs         the nanoseconds that the line bs says, or why it is refused
+--     Is r a             the result r of the code is the answer a, its duration read by its total
 use mathlib.Core.Path.{_≡_}
 use mathlib.Core.Bool.{cond}
 use mathlib.Core.List.{List, [], _∷_}

@@ -3,7 +3,7 @@
 --     row u         the line of the table for the unit u: its code, its nanoseconds and its span limit
 --     code u        its place in the order of the units
 --     nanoseconds u how many nanoseconds it has, if it is a clock unit
---     ns u       the same as a number, 0 for a calendar unit
+--     ns u          the same as a number, 0 for a calendar unit
 --     span-limit u  the largest magnitude that a span holds of it
 --     calendar u    it is a calendar unit
 --     unit-of c     the unit of the code c
