@@ -1,4 +1,6 @@
 // Reads lines of seconds from standard input, and prints each as a time, and last their sum.
+#![tactic(auto)]
+
 use seconds::add_up;
 use std::io::Read;
 

@@ -1,6 +1,8 @@
 // Decimal digits in byte strings: a whole number at the front, a fraction, and a fraction behind a
 // decimal separator. What reads a front hands the remaining bytes back. Each public function has
 // two clauses: `answer` equates it with its definition, and `law` says what that amounts to.
+#![tactic(auto)]
+
 ghost use Rattle.std.specs.Prelude.{◌≡◌, ◌+◌, ◌-◌, ◌*◌, ◌^◌, ◌<◌};
 ghost use Rattle.std.specs.Option.{SomeIff};
 ghost use Rattle.digits.specs.Laws.{PrefixLaw, FractionLaw, TemporalLaw};

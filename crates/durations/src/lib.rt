@@ -1,4 +1,6 @@
 // Signed durations of whole nanoseconds: seconds and nanoseconds of one sign, and no wider number.
+#![tactic(auto)]
+
 mod ratios;
 mod signed_duration;
 #[cfg(test)]

@@ -1,5 +1,7 @@
 // Receivers: what the time of a hold can become. One trait says what a receiver means and how it
 // takes a count of a unit; three kinds of number meet it.
+#![tactic(auto)]
+
 mod judged;
 mod receiver;
 mod run_counter;

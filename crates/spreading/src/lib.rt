@@ -1,5 +1,7 @@
 // Spreading: the time of the clock units goes down from Hour to Nanosecond until each unit holds no
 // more than its limit.
+#![tactic(auto)]
+
 mod limits;
 mod spreading;
 #[cfg(test)]

@@ -1,5 +1,7 @@
 // The words that every other crate speaks: the ten units of time with their table, the signs,
 // and the one fault type with the number of each refusal.
+#![tactic(auto)]
+
 mod fault;
 mod sign;
 #[cfg(test)]
