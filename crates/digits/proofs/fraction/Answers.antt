@@ -7,20 +7,20 @@ use Rattle.digits.proofs.fraction.Goals as goal
 next : (c : goal.After-from) → Read (c.loop-byte.billionths + c.from.result * (c.loop-byte.place / 10)) (c.loop-byte.place / 10) (c.loop-byte.byte-index + 1) c.args.bytes.now
 next c = read_more _ _ _ _ _ (search rules) (search rules) (search rules) c.from.ensures c.loop-byte.invariant
 
-pub overflow-mul-billionths : goal.overflow-mul-billionths
-overflow-mul-billionths c = omega (arith, (next c).room)
+pub overflow_mul-billionths : goal.overflow_mul-billionths
+overflow_mul-billionths c = omega (arith, (next c).room)
 
-pub overflow-add-billionths : goal.overflow-add-billionths
-overflow-add-billionths c = omega (arith, (next c).room)
+pub overflow_add-billionths : goal.overflow_add-billionths
+overflow_add-billionths c = omega (arith, (next c).room)
 
 pub loop-byte-preserved : goal.loop-byte-preserved
 loop-byte-preserved c = next c
 
-pub returns-then-is-empty : goal.returns-then-is-empty
-returns-then-is-empty c = with_law (FractionLaw _) (fraction_law _) (search rules)
+pub returns-then-is_empty : goal.returns-then-is_empty
+returns-then-is_empty c = with_law (FractionLaw _) (fraction_law _) (search rules)
 
-pub returns-then-not-is-ascii-digit : goal.returns-then-not-is-ascii-digit
-returns-then-not-is-ascii-digit c =
+pub returns-then-not-is_ascii_digit : goal.returns-then-not-is_ascii_digit
+returns-then-not-is_ascii_digit c =
     let other = read_other _ _ _ _ (search rules) (search rules) (search rules) c.loop-byte.invariant in
     with_law (FractionLaw _) (fraction_law _) (grind arith)
 

@@ -10,17 +10,17 @@ use Rattle.receivers.proofs.signed.shifted.Goals as goal
 parts : (n : ℕ) → n / (2 * ns Second) * ns Second + n / (2 * ns Second) * ns Second + n % (2 * ns Second) ≡ n
 parts n = omega arith
 
-pub returns-in-default : goal.returns-in-default
-returns-in-default c = λ fit.
+pub returns-in_default : goal.returns-in_default
+returns-in_default c = λ fit.
     let d = c.args.before in
-    c.in-default.ensures (first_in _ _ (total d) (fits d.secs d.nanos (search rules) d.small) _ _ _ (parts (as_nanos c.args.time)) c.args.negative (total c.half-half.result) c.half-half.ensures fit)
+    c.in_default.ensures (first_in _ _ (total d) (fits d.secs d.nanos (search rules) d.small) _ _ _ (parts (as_nanos c.args.time)) c.args.negative (total c.half-half.result) c.half-half.ensures fit)
 
-pub returns-in-default-checked-add : goal.returns-in-default-checked-add
-returns-in-default-checked-add c = λ fit.
+pub returns-in_default-checked_add : goal.returns-in_default-checked_add
+returns-in_default-checked_add c = λ fit.
     let d = c.args.before in
-    c.in-default-checked-add.ensures (second_in _ _ (total d) (fits d.secs d.nanos (search rules) d.small) _ _ _ (parts (as_nanos c.args.time)) c.args.negative (total c.half-half.result) (total c.in-Some.first) c.half-half.ensures c.in-Some.ensures.1 fit)
+    c.in_default-checked_add.ensures (second_in _ _ (total d) (fits d.secs d.nanos (search rules) d.small) _ _ _ (parts (as_nanos c.args.time)) c.args.negative (total c.half-half.result) (total c.in-Some.first) c.half-half.ensures c.in-Some.ensures.1 fit)
 
 pub returns : goal.returns
 returns c =
-    rw (whole c.args.negative (total c.args.before) (total c.half-half.result) (total c.rest.result) (total c.in-Some.first) (total c.in-Some-checked-add.second) _ _ (as_nanos c.args.time) (parts (as_nanos c.args.time)) c.half-half.ensures c.rest.ensures c.in-Some.ensures.1 c.in-Some-checked-add.ensures.1)
-    at c.checked-add-3.ensures
+    rw (whole c.args.negative (total c.args.before) (total c.half-half.result) (total c.rest.result) (total c.in-Some.first) (total c.in-Some-checked_add.second) _ _ (as_nanos c.args.time) (parts (as_nanos c.args.time)) c.half-half.ensures c.rest.ensures c.in-Some.ensures.1 c.in-Some-checked_add.ensures.1)
+    at c.checked_add-3.ensures

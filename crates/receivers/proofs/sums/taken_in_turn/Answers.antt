@@ -19,7 +19,7 @@ loop-count-preserved g c =
     let e' = m.ends c.loop-count.receiver in
     let t = m.total c.loop-count.receiver in
     let told = c.take.ensures in
-    let ok = c.in-ok-take.was in (
+    let ok = c.in_ok-take.was in (
       told.ends ∙ inv.0,
       (
         n + time (at cs i),
@@ -28,13 +28,13 @@ loop-count-preserved g c =
       ),
     )
 
-pub returns-in-err-take : goal.returns-in-err-take
-returns-in-err-take g c =
+pub returns-in_err-take : goal.returns-in_err-take
+returns-in_err-take g c =
     let m = g.R.Receiver in
     let inv = c.loop-count.invariant in
-    let p = err_from_is_err_and c.from-residual.result c.from-residual.ensures.1 in
-    let f = c.in-err-take.field-0.0 in
-    let out = turn_refused (m.ends c.args.like.now) c.args.negative inv.1.0 c.args.counts.now c.loop-count.count_index c.loop-count-test.true (m.ends c.loop-count.receiver) (m.total c.loop-count.receiver) c.take.result inv.0 inv.1.1 c.take.ensures.answered f c.in-err-take.was in
+    let p = err_from_is_err_and c.from_residual.result c.from_residual.ensures.1 in
+    let f = c.in_err-take.field-0.0 in
+    let out = turn_refused (m.ends c.args.like.now) c.args.negative inv.1.0 c.args.counts.now c.loop-count.count_index c.loop-count-test.true (m.ends c.loop-count.receiver) (m.total c.loop-count.receiver) c.take.result inv.0 inv.1.1 c.take.ensures.answered f c.in_err-take.was in
     rw (p.1, p.2) (record { total = sym out ∙ inv.1.2; ends = tt })
 
 pub returns : goal.returns

@@ -3,21 +3,21 @@ use Rattle.std.proofs.lemmas.Int.{to_z-of_z}
 use Rattle.durations.proofs.Ranges.{sums, small_fits, sum_fits, sum_within}
 use Rattle.durations.proofs.signed_duration.SignedDuration.checked_add.Goals as goal
 
-pub overflow-add-self : goal.overflow-add-self
-overflow-add-self c =
+pub overflow_add-self : goal.overflow_add-self
+overflow_add-self c =
     let a = c.args.self in
     let b = c.args.rhs in
     let fp = small_fits a.nanos a.small in
     let fq = small_fits b.nanos b.small in
     simp to_z-of_z (sum_fits a.nanos b.nanos a.small b.small)
 
-pub returns-in-default : goal.returns-in-default
-returns-in-default c = λ fit.
+pub returns-in_default : goal.returns-in_default
+returns-in_default c = λ fit.
     let a = c.args.self in
     let b = c.args.rhs in
     let fa : SFits w64 a.secs = search rules in
     let fb : SFits w64 b.secs = search rules in
-    let none : SFits w64 (a.secs +ℤ b.secs) → ⊥ = simp to_z-of_z at c.in-default.ensures in
+    let none : SFits w64 (a.secs +ℤ b.secs) → ⊥ = simp to_z-of_z at c.in_default.ensures in
     none (sum_within a.secs b.secs a.nanos b.nanos fa fb a.small b.small a.one_sign b.one_sign fit)
 
 pub returns : goal.returns

@@ -6,27 +6,27 @@ use Rattle.durations.proofs.Parting.{fine}
 use Rattle.durations.proofs.Ranges.{small_fits, wide}
 use Rattle.durations.proofs.signed_duration.SignedDuration.fine_units.Goals as goal
 
-pub returns-in-default : goal.returns-in-default
-returns-in-default c = λ count.
+pub returns-in_default : goal.returns-in_default
+returns-in_default c = λ count.
     let d = c.args.self.now in
-    let k = c.args.per-sec in
-    let m = c.args.nanos-each in
+    let k = c.args.per_sec in
+    let m = c.args.nanos_each in
     let fs : SFits w64 d.secs = search rules in
-    let fk = c.ranges.per-sec in
+    let fk = c.ranges.per_sec in
     let fp = small_fits d.nanos d.small in
-    let fm = c.ranges.nanos-each in
+    let fm = c.ranges.nanos_each in
     let wp = wide d.nanos fp in
     let wm = wide m fm in
     let fu : SFits w64 c.cut-units.result.0 = search rules in
     let units : c.cut-units.result.0 ≡ quot_z d.nanos m = simp to_z-of_z at c.cut-units.ensures.whole in
     let parts = fine d.secs d.nanos k m c.requires (search rules) in
-    let none : nat_abs (d.secs *ℤ k +ℤ c.cut-units.result.0) ≡ nat_abs (d.secs *ℤ k) + nat_abs c.cut-units.result.0 → Count (d.secs *ℤ k +ℤ c.cut-units.result.0) → ⊥ = simp to_z-of_z at c.in-default.ensures in
+    let none : nat_abs (d.secs *ℤ k +ℤ c.cut-units.result.0) ≡ nat_abs (d.secs *ℤ k) + nat_abs c.cut-units.result.0 → Count (d.secs *ℤ k +ℤ c.cut-units.result.0) → ⊥ = simp to_z-of_z at c.in_default.ensures in
     none (rw units parts.2) (rw (units, parts.0) count)
 
-pub of-parts-rest-requires : goal.of-parts-rest-requires
-of-parts-rest-requires c =
-    let m = c.args.nanos-each in
-    let fm = c.ranges.nanos-each in
+pub of_parts-rest-requires : goal.of_parts-rest-requires
+of_parts-rest-requires c =
+    let m = c.args.nanos_each in
+    let fm = c.ranges.nanos_each in
     let wm = wide m fm in
     let fr : SFits w32 c.cut-units.result.1 = search rules in
     let short : nat_abs c.cut-units.result.1 < nat_abs m = simp to_z-of_z at c.cut-units.ensures.short in
@@ -35,12 +35,12 @@ of-parts-rest-requires c =
 pub returns : goal.returns
 returns c =
     let d = c.args.self.now in
-    let k = c.args.per-sec in
-    let m = c.args.nanos-each in
+    let k = c.args.per_sec in
+    let m = c.args.nanos_each in
     let fs : SFits w64 d.secs = search rules in
-    let fk = c.ranges.per-sec in
+    let fk = c.ranges.per_sec in
     let fp = small_fits d.nanos d.small in
-    let fm = c.ranges.nanos-each in
+    let fm = c.ranges.nanos_each in
     let wp = wide d.nanos fp in
     let wm = wide m fm in
     let fu : SFits w64 c.cut-units.result.0 = search rules in
@@ -51,5 +51,5 @@ returns c =
     let sum : c.in-Some.count ≡ d.secs *ℤ k +ℤ c.cut-units.result.0 = simp to_z-of_z at c.in-Some.ensures.1 in
     let parts = fine d.secs d.nanos k m c.requires (search rules) in
     let count : c.in-Some.count ≡ quot_z (total d) (pos (nat_abs m)) = sum ∙ ap (λ u. d.secs *ℤ k +ℤ u) units ∙ parts.0 in
-    let rest : total c.of-parts-rest.result ≡ pos 0 *ℤ pos 1000000000 +ℤ c.cut-units.result.1 = simp to_z-of_z at c.of-parts-rest.ensures in
+    let rest : total c.of_parts-rest.result ≡ pos 0 *ℤ pos 1000000000 +ℤ c.cut-units.result.1 = simp to_z-of_z at c.of_parts-rest.ensures in
     (rw count at c.in-Some.ensures.0, record { count = simp to_z-of_z count; rest = rest ∙ omega (arith, ints) ∙ nanos ∙ parts.1 })

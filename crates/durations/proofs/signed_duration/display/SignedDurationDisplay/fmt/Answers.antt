@@ -9,6 +9,6 @@ returns-clause-writes g c = λ plain ok.
     let d = c.args.self.now in
     let fs : SFits w64 d.secs = search rules in
     let fp : SFits w32 d.nanos = search rules in
-    let secs : c.unsigned-abs-secs.result ≡ nat_abs d.secs = simp to_z-of_z at c.unsigned-abs-secs.ensures.value in
-    let nanos : c.unsigned-abs.result ≡ nat_abs d.nanos = simp to_z-of_z at c.unsigned-abs.ensures.value in
-    has_written_of_eq _ _ _ _ _ (rw (c.sign-text-sign.ensures, c.is-negative.ensures, secs, nanos) (in_parts d.secs d.nanos d.small d.one_sign)) (c.write.ensures.writes plain ok)
+    let secs : c.unsigned_abs-secs.result ≡ nat_abs d.secs = simp to_z-of_z at c.unsigned_abs-secs.ensures.value in
+    let nanos : c.unsigned_abs.result ≡ nat_abs d.nanos = simp to_z-of_z at c.unsigned_abs.ensures.value in
+    has_written_of_eq _ _ _ _ _ (rw (c.sign_text-sign.ensures, c.is_negative.ensures, secs, nanos) (in_parts d.secs d.nanos d.small d.one_sign)) (c.write.ensures.writes plain ok)

@@ -14,7 +14,7 @@ same a b m s = let bits = a.told ∙ ap bits_of m ∙ sym b.told in cc
 pub returns-then-eq : goal.returns-then-eq
 returns-then-eq c =
     let m = (slice_eq-Decides Decides-eqb _ _ _ c.eq.ensures).0 c.if-eq.true in
-    Decides-like c.same-sign.result (same c.args.self.now c.args.other.now m) (ap (λ s. s.sign)) c.same-sign.ensures
+    Decides-like c.same_sign.result (same c.args.self.now c.args.other.now m) (ap (λ s. s.sign)) c.same_sign.ensures
 
 pub returns-else-eq : goal.returns-else-eq
 returns-else-eq c =
