@@ -19,8 +19,8 @@ fn taken_in_turn<R: Receiver + Drop>(
     counts: &[UnitCount],
     negative: bool,
 ) -> Result<R, Fault>
-    ensures total { result_map_both total (λ f. f) result ≡ total_from (ends like.now) negative 0 counts.now }
-    ensures ends { IfOk result (λ v. ends v ≡ ends like.now) }
+    ensures total { result_map_both R.total (λ f. f) result ≡ total_from (R.ends like.now) negative 0 counts.now }
+    ensures ends { IfOk result (λ v. R.ends v ≡ R.ends like.now) }
 {
     let mut receiver = like.renewed();
     for count in counts {
@@ -36,9 +36,9 @@ pub fn take_all<R: Receiver + Drop>(
     counts: &[UnitCount],
     negative: bool,
 ) -> Result<R, Fault>
-    ensures total { result_map_both total (λ f. f) result ≡ total_from (ends like.now) negative 0 counts.now }
-    ensures ends { IfOk result (λ v. ends v ≡ ends like.now) }
-    ensures exactly { Summed total (ends like.now) negative counts.now result }
+    ensures total { result_map_both R.total (λ f. f) result ≡ total_from (R.ends like.now) negative 0 counts.now }
+    ensures ends { IfOk result (λ v. R.ends v ≡ R.ends like.now) }
+    ensures exactly { Summed R.total (R.ends like.now) negative counts.now result }
     ensures each { Accepts }
 {
     taken_in_turn(like, counts, negative)

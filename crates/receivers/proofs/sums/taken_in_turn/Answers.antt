@@ -15,7 +15,7 @@ loop-count-preserved g c =
     let b = c.args.negative in
     let n = inv.1.0 in
     let cs = c.args.counts.now in
-    let i = c.loop-count.count_index in
+    let i = c.loop-count.count-index in
     let e' = m.ends c.loop-count.receiver in
     let t = m.total c.loop-count.receiver in
     let told = c.take.ensures in
@@ -34,13 +34,13 @@ returns-in_err-take g c =
     let inv = c.loop-count.invariant in
     let p = err_from_is_err_and c.from_residual.result c.from_residual.ensures.1 in
     let f = c.in_err-take.field-0.0 in
-    let out = turn_refused (m.ends c.args.like.now) c.args.negative inv.1.0 c.args.counts.now c.loop-count.count_index c.loop-count-test.true (m.ends c.loop-count.receiver) (m.total c.loop-count.receiver) c.take.result inv.0 inv.1.1 c.take.ensures.answered f c.in_err-take.was in
+    let out = turn_refused (m.ends c.args.like.now) c.args.negative inv.1.0 c.args.counts.now c.loop-count.count-index c.loop-count-test.true (m.ends c.loop-count.receiver) (m.total c.loop-count.receiver) c.take.result inv.0 inv.1.1 c.take.ensures.answered f c.in_err-take.was in
     rw (p.1, p.2) (record { total = sym out ∙ inv.1.2; ends = tt })
 
 pub returns : goal.returns
 returns g c =
     let inv = c.loop-count.invariant in
     record {
-      total = ap Ok inv.1.1 ∙ turns_done (g.R.Receiver.ends c.args.like.now) c.args.negative inv.1.0 c.args.counts.now c.loop-count.count_index c.loop-count-test.false ∙ inv.1.2;
+      total = ap Ok inv.1.1 ∙ turns_done (g.R.Receiver.ends c.args.like.now) c.args.negative inv.1.0 c.args.counts.now c.loop-count.count-index c.loop-count-test.false ∙ inv.1.2;
       ends = inv.0;
     }

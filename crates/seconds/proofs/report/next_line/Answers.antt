@@ -1,5 +1,5 @@
-use Rattle.std.proofs.Common.{◌≡◌, ◌<◌, length, add-one, arith}
-use Rattle.std.proofs.lemmas.List.{length-drop, take_all, take_rest, drop_all, drop-drop}
+use Rattle.std.proofs.Common.{◌≡◌, ◌<◌, length, drop-cons, arith}
+use Rattle.std.proofs.lemmas.List.{length-drop, take_all, take_rest, drop_all}
 use Rattle.std.proofs.lemmas.Bool.{ltb-true, ltb-false}
 use Rattle.seconds.proofs.Lining.{fed_line, last_line}
 use Rattle.seconds.proofs.report.next_line.Goals as goal
@@ -14,8 +14,10 @@ returns-in_default c =
 
 pub returns : goal.returns
 returns c =
-    let some : c.line_length.result < length c.args.bytes.now = omega (arith, ltb-false) in
+    let bytes = c.args.bytes.now in
+    let n = c.line_length.result in
+    let some : n < length bytes = omega (arith, ltb-false) in
     record {
-      line = λ _. rw (take_rest, c.split_at.ensures.front, c.split_at.ensures.back, drop-drop, add-one) (fed_line c.args.bytes.now c.line_length.result c.line_length.ensures.clear some (c.line_length.ensures.feed some));
+      line = λ _. rw (take_rest, c.split_at.ensures.front, c.split_at.ensures.back, drop-cons bytes n 0) (fed_line bytes n c.line_length.ensures.clear some (c.line_length.ensures.feed some));
       shorter = λ _. rw (take_rest, length-drop) (omega arith);
     }
