@@ -1,6 +1,7 @@
 -- The ten magnitudes of a span, by unit code, and its sign. Assumes nothing: these are definitions.
 --     all_zero ms      every magnitude is 0
 --     is_zero s        the sign s is Zero
+--     side s           the place of the sign s among the three
 --     or_positive s    the sign s, or Positive where s is Zero
 --     sign_after s b z the sign of a span of sign s once the value z is set in it, where b says whether all its magnitudes are then 0
 use Rattle.std.specs.Prelude.{ℕ, Bool, true, false, cond, ◌&&◌, List, [], ◌∷◌, ℤ, pos, negsuc, ◌==◌}
@@ -15,6 +16,11 @@ abbrev pub is_zero : Sign → Bool
 is_zero Negative = false
 is_zero Zero = true
 is_zero Positive = false
+
+abbrev pub side : Sign → ℕ
+side Negative = 0
+side Zero = 1
+side Positive = 2
 
 abbrev pub or_positive : Sign → Sign
 or_positive Negative = Negative

@@ -5,8 +5,11 @@
 --     of_magnitudes ms s z the magnitudes ms with their bits, and with the sign of s once the value z is set in it
 --     with_value s u z     the span s with the value z at the unit u, or SpanLimitPassed where its magnitude passes the limit of u
 --     clock_total s        the signed time of its clock magnitudes, in nanoseconds
+--     same a b             the spans a and b have the same magnitudes and the same sign
 --     Told s               what holds of every span s
-use Rattle.std.specs.Prelude.{◌≡◌, ℕ, ◌≤◌, not, List, set, replicate, ℤ, Result, ◌==◌, nat_lt, slice_index, slice_set, unsigned_abs}
+use Rattle.std.specs.Prelude.{◌≡◌, ℕ, ◌≤◌, Bool, not, List, set, replicate, ℤ, Result, ◌==◌, nat_lt, slice_index, slice_set, unsigned_abs}
+use Rattle.std.specs.Ordering.{eq_of_both, on}
+use Rattle.std.specs.Cmp.Lexicographic.{pointwise}
 use Rattle.units.specs.declared.fault.Fault.{Fault}
 use Rattle.units.specs.declared.fault.Fault.TheVariants.{SpanLimitPassed}
 use Rattle.units.specs.declared.sign.Sign.{Sign}
@@ -18,7 +21,7 @@ use Rattle.units.specs.Table.{code, span_limit}
 use Rattle.units.specs.Times.{time_from}
 use Rattle.spans.specs.declared.span.Span.{Span}
 use Rattle.spans.specs.Bits.{bit, one_if, bits_of}
-use Rattle.spans.specs.Magnitudes.{all_zero, is_zero, sign_after}
+use Rattle.spans.specs.Magnitudes.{all_zero, is_zero, side, sign_after}
 
 pub record Shown : Type 0 where
   pub magnitudes : List ℕ
@@ -39,6 +42,9 @@ with_value s u z = unless_refused (when (nat_lt (span_limit u) (unsigned_abs z))
 
 abbrev pub clock_total : Span → ℤ
 clock_total s = signed (is_negative s.sign) (time_from 0 s.magnitudes)
+
+abbrev pub same : Span → Span → Bool
+same = eq_of_both (on (λ s. s.magnitudes) (pointwise ◌==◌)) (on (λ s. side s.sign) ◌==◌)
 
 pub record Told (s : Span) : Type 0 where
   -- no magnitude passes its limit

@@ -1,7 +1,7 @@
 // The time of a span's clock units, exact in nanoseconds. It always fits: the limits are far below
 // what a duration holds.
 ghost use Rattle.std.specs.Prelude.{◌≡◌, ◌*◌, false, pos, neg_ℤ, ◌≤ℤ◌, slice_index};
-ghost use Rattle.std.specs.Duration.{«span-nanos», FitsDuration};
+ghost use Rattle.std.specs.Duration.{as_nanos, FitsDuration};
 ghost use Rattle.units.specs.Table.{ns, code, calendar};
 ghost use Rattle.units.specs.Times.{time_from};
 ghost use Rattle.durations.specs.Totals.{total};
@@ -14,8 +14,8 @@ use units::{Sign, Unit};
 
 // A time as a signed duration. Up to half of what a Duration holds, its seconds are an i64.
 fn positive(time: Duration) -> SignedDuration
-    requires { FitsDuration (span-nanos time * 2) }
-    ensures { total result ≡ pos (span-nanos time) }
+    requires { FitsDuration (as_nanos time * 2) }
+    ensures { total result ≡ pos (as_nanos time) }
 {
     let secs = SignedDuration::from_secs(time.as_secs() as i64);
     let nanos = SignedDuration::from_nanos(time.subsec_nanos() as i64);
@@ -39,8 +39,8 @@ impl Span {
     // The time of one clock unit, less than a twelfth of what a Duration holds.
     fn time(&self, unit: Unit) -> Duration
         requires { calendar unit ≡ false }
-        ensures value { span-nanos result ≡ slice_index self.now.magnitudes (code unit) * ns unit }
-        ensures short { FitsDuration (span-nanos result * 12) }
+        ensures value { as_nanos result ≡ slice_index self.now.magnitudes (code unit) * ns unit }
+        ensures short { FitsDuration (as_nanos result * 12) }
     {
         let Some(time) = unit.time(self.magnitude(unit)) else {
             unreachable()
@@ -50,8 +50,8 @@ impl Span {
 
     // The time of all clock units, without the sign: less than half of what a Duration holds.
     fn clock_time(&self) -> Duration
-        ensures value { span-nanos result ≡ time_from 0 self.now.magnitudes }
-        ensures short { FitsDuration (span-nanos result * 2) }
+        ensures value { as_nanos result ≡ time_from 0 self.now.magnitudes }
+        ensures short { FitsDuration (as_nanos result * 2) }
     {
         self.time(Unit::Hour)
             + self.time(Unit::Minute)

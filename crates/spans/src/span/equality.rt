@@ -1,14 +1,16 @@
 // Equality of spans. The set of units tells nothing that the magnitudes do not.
-ghost use Rattle.std.specs.Prelude.{◌≡◌, Decides};
-ghost use Rattle.spans.specs.Spans.{shown};
+ghost use Rattle.std.specs.Prelude.{◌≡◌, ◌==◌};
+ghost use Rattle.std.specs.Bool.{Decides};
+ghost use Rattle.spans.specs.Magnitudes.{side};
+ghost use Rattle.spans.specs.Spans.{shown, same};
 ghost use Rattle.std.specs.Cmp.Rules.{comparing};
-ghost use Rattle.std.proofs.Common.{rules, arith};
+ghost use Rattle.std.proofs.Common.{rules};
 
 use super::Span;
 use units::Sign;
 
 fn same_sign(left: Sign, right: Sign) -> bool
-    ensures { Decides result (left ≡ right) }
+    ensures { result ≡ (side left == side right) }
 {
     match (left, right) {
         (Sign::Negative, Sign::Negative) => true,
@@ -19,11 +21,14 @@ fn same_sign(left: Sign, right: Sign) -> bool
 }
 
 impl PartialEq for Span {
-    ghost equals = { λ a b r. Decides r (shown a ≡ shown b) };
+    ghost eq = { same };
 
-    ghost laws = { first_of (Prim.search (comparing, rules), Prim.grind (arith, Self.row.coded.inj)) };
+    ghost laws = { Prim.search (comparing, rules) };
 
-    fn eq(&self, other: &Span) -> bool {
+    fn eq(&self, other: &Span) -> bool
+        ensures value { result ≡ same self.now other.now }
+        ensures decided { Decides result (shown self.now ≡ shown other.now) }
+    {
         self.magnitudes == other.magnitudes && same_sign(self.sign, other.sign)
     }
 }

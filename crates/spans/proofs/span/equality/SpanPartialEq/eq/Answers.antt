@@ -1,21 +1,44 @@
-use Rattle.std.proofs.Common.{◌≡◌, sym, ap, ◌∙◌}
+use Rattle.std.proofs.Common.{◌≡◌, Bool, refl, sym, ap, ◌∙◌, arith, rules}
 use Rattle.std.proofs.lemmas.Slice.Eq.{slice_eq-Decides}
-use Rattle.std.proofs.lemmas.Bool.{both_ways}
-use Rattle.std.proofs.lemmas.Bool.Decides.{Decides-like, Decides-eqb}
+use Rattle.std.proofs.lemmas.Bool.Decides.{Decides-eqb}
+use Rattle.std.proofs.lemmas.Bool.{and_parts}
+use Rattle.std.specs.Bool.{Decides}
+use Rattle.units.specs.declared.sign.Sign.{Sign}
+use Rattle.units.specs.declared.sign.Sign.TheVariants.{Negative, Zero, Positive}
 use Rattle.spans.specs.Bits.{bits_of}
-use Rattle.spans.specs.Spans.{shown}
+use Rattle.spans.specs.Magnitudes.{side}
+use Rattle.spans.specs.Spans.{shown, same}
 use Rattle.spans.specs.declared.span.Span.{Span}
 use Rattle.spans.proofs.span.equality.SpanPartialEq.eq.Goals as goal
 
+same_side : (s t : Sign) → side s ≡ side t → s ≡ t
+same_side Negative Negative e = refl
+same_side Zero Zero e = refl
+same_side Positive Positive e = refl
+same_side Negative Zero e = absurd (omega arith)
+same_side Negative Positive e = absurd (omega arith)
+same_side Zero Negative e = absurd (omega arith)
+same_side Zero Positive e = absurd (omega arith)
+same_side Positive Negative e = absurd (omega arith)
+same_side Positive Zero e = absurd (omega arith)
+
 -- The magnitudes tell the bits.
-same : (a b : Span) → a.magnitudes ≡ b.magnitudes → a.sign ≡ b.sign → shown a ≡ shown b
-same a b m s = let bits = a.told ∙ ap bits_of m ∙ sym b.told in cc
+alike : (a b : Span) → a.magnitudes ≡ b.magnitudes → a.sign ≡ b.sign → shown a ≡ shown b
+alike a b m s = let bits = a.told ∙ ap bits_of m ∙ sym b.told in cc
 
-pub returns-then-eq : goal.returns-then-eq
-returns-then-eq c =
-    let m = (slice_eq-Decides Decides-eqb _ _ _ c.eq.ensures).0 c.if-eq.true in
-    Decides-like c.same_sign.result (same c.args.self.now c.args.other.now m) (ap (λ s. s.sign)) c.same_sign.ensures
+told : (a b : Span) → Decides (same a b) (shown a ≡ shown b)
+told a b =
+    let m = slice_eq-Decides Decides-eqb a.magnitudes b.magnitudes _ refl in
+    let s = Decides-eqb (side a.sign) (side b.sign) in (
+      λ h. let p = and_parts _ _ h in alike a b (m.0 p.0) (same_side a.sign b.sign (s.0 p.1)),
+      λ e. rw (m.1 (ap (λ x. x.magnitudes) e)) (s.1 (ap (λ x. side x.sign) e)),
+    )
 
-pub returns-else-eq : goal.returns-else-eq
-returns-else-eq c =
-    (λ e. absurd (both_ways _ c.if-eq.false e), λ e. (slice_eq-Decides Decides-eqb _ _ _ c.eq.ensures).1 (ap (λ s. s.magnitudes) e))
+decided : (r : Bool) (a b : Span) → r ≡ same a b → Decides r (shown a ≡ shown b)
+decided r a b e = rw e (told a b)
+
+pub returns-then-eq-clause-decided : goal.returns-then-eq-clause-decided
+returns-then-eq-clause-decided c = decided _ c.args.self.now c.args.other.now (search rules)
+
+pub returns-else-eq-clause-decided : goal.returns-else-eq-clause-decided
+returns-else-eq-clause-decided c = decided _ c.args.self.now c.args.other.now (search rules)
