@@ -7,7 +7,7 @@
 --     clock_total s        the signed time of its clock magnitudes, in nanoseconds
 --     same a b             the spans a and b have the same magnitudes and the same sign
 --     Told s               what holds of every span s
-use Rattle.std.specs.Prelude.{◌≡◌, ℕ, ◌≤◌, Bool, not, List, set, replicate, ℤ, Result, ◌==◌, nat_lt, slice_index, slice_set, unsigned_abs}
+use Rattle.std.specs.Prelude.{◌≡◌, ℕ, ◌≤◌, Bool, not, List, replicate, ℤ, Result, ◌==◌, nat_lt, slice_index, slice_set, unsigned_abs}
 use Rattle.std.specs.Ordering.{eq_of_both, on}
 use Rattle.std.specs.Cmp.Lexicographic.{pointwise}
 use Rattle.units.specs.declared.fault.Fault.{Fault}
