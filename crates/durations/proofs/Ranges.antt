@@ -27,10 +27,10 @@ pub lowest_alone : (s n : ℤ) → n ≡ neg_ℤ s → SFits w64 n → s ≡ neg
 lowest_alone s n e fit low = omega (arith, ints)
 
 pub fits : (s p : ℤ) → SFits w64 s → nat_abs p < ns Second → Fits (s *ℤ pos (ns Second) +ℤ p)
-fits s p whole small = record { above = omega (arith, ints); below = omega (arith, ints) }
+fits s p whole small = record { lowest = omega (arith, ints); highest = omega (arith, ints) }
 
 pub fits_secs : (s : ℤ) → SFits w64 s → Fits (s *ℤ pos (ns Second))
-fits_secs s whole = record { above = omega (arith, ints); below = omega (arith, ints) }
+fits_secs s whole = record { lowest = omega (arith, ints); highest = omega (arith, ints) }
 
 pub sum_within : (a b p q : ℤ) → SFits w64 a → SFits w64 b → nat_abs p < ns Second → nat_abs q < ns Second → nat_abs (a +ℤ p) ≡ nat_abs a + nat_abs p → nat_abs (b +ℤ q) ≡ nat_abs b + nat_abs q → Fits ((a *ℤ pos (ns Second) +ℤ p) +ℤ (b *ℤ pos (ns Second) +ℤ q)) → SFits w64 (a +ℤ b)
 sum_within a b p q x y h l e f fit = omega (arith, ints)

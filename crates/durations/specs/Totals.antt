@@ -12,7 +12,6 @@
 --     OneSide s n    neither is above 0 while the other is below
 --     PerSecond k m k units of m nanoseconds are a second
 use Rattle.std.specs.Prelude.{◌≡◌, ℕ, ◌+◌, ◌-◌, ◌*◌, ◌^◌, ◌<◌, ℤ, pos, ◌+ℤ◌, ◌*ℤ◌, neg_ℤ, ◌≤ℤ◌, ◌<ℤ◌, Some, None, Option, int_div, int_rem, unsigned_abs}
-use Rattle.units.specs.Signs.{Between}
 use Rattle.units.specs.Table.{ns}
 use Rattle.units.specs.declared.unit.Unit.TheVariants.{Second}
 use Rattle.durations.specs.declared.signed_duration.SignedDuration.{SignedDuration}
@@ -26,15 +25,17 @@ lowest_total = 2 ^ 63 * ns Second + (ns Second - 1)
 abbrev pub highest_total : ℕ
 highest_total = (2 ^ 63 - 1) * ns Second + (ns Second - 1)
 
-abbrev pub Fits : ℤ → Type 0
-Fits z = Between (neg_ℤ (pos lowest_total)) (pos highest_total) z
+pub record Fits (z : ℤ) : Type 0 where
+  pub lowest : neg_ℤ (pos lowest_total) ≤ℤ z
+  pub highest : z ≤ℤ pos highest_total
 
 abbrev pub Exact : Option SignedDuration → ℤ → Type 0
 Exact (Some d) z = Fits z × (total d ≡ z)
 Exact None z = Fits z → ⊥
 
-abbrev pub Count : ℤ → Type 0
-Count z = Between (neg_ℤ (pos (2 ^ 63))) (pos (2 ^ 63 - 1)) z
+pub record Count (z : ℤ) : Type 0 where
+  pub lowest : neg_ℤ (pos (2 ^ 63)) ≤ℤ z
+  pub highest : z ≤ℤ pos (2 ^ 63 - 1)
 
 pub record Split (n : ℕ) (z : ℤ) (p : ℤ × SignedDuration) : Type 0 where
   pub count : p.0 ≡ int_div z (pos n)

@@ -1,13 +1,16 @@
 -- A total moved by two halves and a rest of one sign: each partial sum lies between the first and the last. Assumes nothing.
-use Rattle.std.proofs.Common.{◌≡◌, ℕ, ◌+◌, Bool, true, false, ℤ, ◌+ℤ◌, arith, w64, SFits}
+use Rattle.std.proofs.Common.{◌≡◌, ℕ, ◌+◌, ◌-◌, ◌^◌, Bool, true, false, ℤ, pos, neg_ℤ, ◌+ℤ◌, arith, w64, SFits}
 use Rattle.std.proofs.lemmas.Int.{ints}
 use Rattle.units.specs.Signs.{signed, Between}
-use Rattle.durations.specs.Totals.{Count}
 
-pub count_from : (z : ℤ) → SFits w64 z → Count z
+-- z is an i64.
+abbrev pub Counts : ℤ → Type 0
+Counts z = Between (neg_ℤ (pos (2 ^ 63))) (pos (2 ^ 63 - 1)) z
+
+pub count_from : (z : ℤ) → SFits w64 z → Counts z
 count_from z f = record { above = omega (arith, ints); below = omega (arith, ints) }
 
-pub from_count : (z : ℤ) → Count z → SFits w64 z
+pub from_count : (z : ℤ) → Counts z → SFits w64 z
 from_count z i = omega (arith, ints, i.above, i.below)
 
 pub whole : (b : Bool) (t half rest first second : ℤ) (h r n : ℕ) → h + h + r ≡ n → half ≡ signed b h → rest ≡ signed b r → first ≡ t +ℤ half → second ≡ first +ℤ half → second +ℤ rest ≡ t +ℤ signed b n
