@@ -3,7 +3,7 @@ use Rattle.std.proofs.Common.{◌≡◌, ℕ, zero, suc, ◌+◌, ◌-◌, ◌<�
 use Rattle.std.proofs.lemmas.List.{drop_at, drop_more, get_or_past, take_at}
 use Rattle.std.proofs.lemmas.Bool.{cases_Bool}
 use Rattle.std.proofs.lemmas.Bool.Decides.{nat_tests}
-use Rattle.std.specs.List.{AllByRecursion as All}
+use Rattle.std.specs.List.{AllByRecursion}
 use Rattle.digits.specs.Numbers.{is_digit, front, behind, first_other}
 use Rattle.digits.specs.Laws.{Front, digit_leads}
 
@@ -18,7 +18,7 @@ front_law (suc m) (b ∷ bs) =
       | inr e ↦ rw e (record { whole = refl; digits = tt; few = omega arith; longest = λ h. e })
     ]
 
-front_is : (m : ℕ) (ds rest : List ℕ) → All (λ d. is_digit d ≡ true) ds → length ds ≤ m → (length ds < m → digit_leads rest ≡ false) → front m (ds ++ rest) ≡ ds
+front_is : (m : ℕ) (ds rest : List ℕ) → AllByRecursion (λ d. is_digit d ≡ true) ds → length ds ≤ m → (length ds < m → digit_leads rest ≡ false) → front m (ds ++ rest) ≡ ds
 unfolding front
 front_is zero [] rest all few longest = refl
 front_is zero (d ∷ ds) rest all few longest = absurd (omega arith)
@@ -31,7 +31,7 @@ front_only m bs ds rest h =
     let is : front m bs ≡ ds = ap (front m) (sym h.whole) ∙ front_is m ds rest h.digits h.few h.longest in
     (sym is, rw is (rw (← h.whole) (sym (drop_at ds rest _ refl))))
 
-pub all_digits : (ds : List ℕ) → All (λ d. is_digit d ≡ true) ds → first_other ds ≡ None
+pub all_digits : (ds : List ℕ) → AllByRecursion (λ d. is_digit d ≡ true) ds → first_other ds ≡ None
 unfolding first_other
 all_digits [] h = refl
 all_digits (d ∷ ds) h = rw h.0 (all_digits ds h.1)

@@ -7,7 +7,7 @@
 --     FractionLaw bs r      the law of `fraction`
 --     TemporalLaw bs r      the law of `parse_temporal_fraction`
 use Rattle.std.specs.Prelude.{◌≡◌, ℕ, ◌^◌, ◌<◌, ◌≤◌, Bool, true, false, not, ◌&&◌, ◌↔◌, List, [], ◌∷◌, ◌++◌, length, is_ok, IsErrAnd, Some, None, Ok, Option, Result}
-use Rattle.std.specs.List.{AllByRecursion as All}
+use Rattle.std.specs.List.{AllByRecursion}
 use Rattle.units.specs.declared.fault.Fault.{Fault}
 use Rattle.units.specs.declared.fault.Told.{Told}
 use Rattle.units.specs.declared.fault.Told.TheVariants.{Nothing, Byte}
@@ -27,7 +27,7 @@ lone_separator (b ∷ bs) = is_separator b && not (digit_leads bs)
 
 pub record Front (most : ℕ) (bs ds rest : List ℕ) : Type 0 where
   pub whole : ds ++ rest ≡ bs
-  pub digits : All (λ d. is_digit d ≡ true) ds
+  pub digits : AllByRecursion (λ d. is_digit d ≡ true) ds
   pub few : length ds ≤ most
   -- it stops short of `most` only where no digit follows
   pub longest : length ds < most → digit_leads rest ≡ false

@@ -1,7 +1,7 @@
 -- Counts of one sign are all taken exactly when each of them and their sum are in range. Assumes nothing.
 use Rattle.std.proofs.Common.{◌≡◌, ℕ, ◌+◌, Bool, false, not, List, [], ◌∷◌, ℤ, None, Ok, Err, Result, sym, refl, ap, ◌∙◌, add-zero, add_assoc, zero-add, arith}
 use Rattle.std.specs.Result.{result_map_both}
-use Rattle.std.specs.List.{AllByRecursion as All}
+use Rattle.std.specs.List.{AllByRecursion}
 use Rattle.std.proofs.lemmas.Bool.{not-false, not_from_true}
 use Rattle.units.specs.declared.fault.Fault.{Fault}
 use Rattle.units.specs.declared.fault.Fault.TheVariants.{NotAllowedCalendarUnit, SignedOverflowForUnit, OverflowForUnit}
@@ -47,7 +47,7 @@ pub accepts : Accepts
 accepts e t z u = (λ ok. acceptable e t z u (accepted (first (refusals e t z u)) tt tt ok).0, λ a. rw (none_met e t z u a))
 
 module _ (e : Ends) (zeros : ContainsZero e) (b : Bool) where
-  all_from : (n : ℕ) (cs : List UnitCount) → All (λ c. calendar c.unit ≡ false) cs → All (λ c. Counted e (signed b c.magnitude)) cs → Totalled e (signed b (n + time_of cs)) → first (all_refusals e b n cs) ≡ None
+  all_from : (n : ℕ) (cs : List UnitCount) → AllByRecursion (λ c. calendar c.unit ≡ false) cs → AllByRecursion (λ c. Counted e (signed b c.magnitude)) cs → Totalled e (signed b (n + time_of cs)) → first (all_refusals e b n cs) ≡ None
   unfolding time_of all_refusals
   all_from n [] clock counts total = refl
   all_from n (c ∷ cs) clock counts total =
@@ -56,7 +56,7 @@ module _ (e : Ends) (zeros : ContainsZero e) (b : Bool) where
       first_after (refusals e (signed b n) (signed b c.magnitude) c.unit) (all_refusals e b (n + time c) cs) (none_met e (signed b n) (signed b c.magnitude) c.unit (record { clock = clock.0; count = counts.0; total = rw (moved_signed b n c.magnitude c.unit) here }))
       ∙ all_from (n + time c) cs clock.1 counts.1 later
 
-  all_tells : (n : ℕ) (cs : List UnitCount) → Totalled e (signed b n) → first (all_refusals e b n cs) ≡ None → All (λ c. calendar c.unit ≡ false) cs × All (λ c. Counted e (signed b c.magnitude)) cs × Totalled e (signed b (n + time_of cs))
+  all_tells : (n : ℕ) (cs : List UnitCount) → Totalled e (signed b n) → first (all_refusals e b n cs) ≡ None → AllByRecursion (λ c. calendar c.unit ≡ false) cs × AllByRecursion (λ c. Counted e (signed b c.magnitude)) cs × Totalled e (signed b (n + time_of cs))
   unfolding time_of all_refusals
   all_tells n [] held h = (tt, tt, rw (add-zero n) held)
   all_tells n (c ∷ cs) held h =

@@ -6,7 +6,7 @@
 --     InRange e b cs        every count is of a clock unit and in the range of counts, and the sum of all is in the range of totals
 --     Summed f e b cs r     r, of total f, holds the sum, and is there exactly when all is in range
 use Rattle.std.specs.Prelude.{◌≡◌, ℕ, ◌+◌, ◌*◌, Bool, false, List, [], ◌∷◌, ◌++◌, ℤ, Option, Result, MatchResult}
-use Rattle.std.specs.List.{AllByRecursion as All}
+use Rattle.std.specs.List.{AllByRecursion}
 use Rattle.units.specs.declared.fault.Fault.{Fault}
 use Rattle.units.specs.Refusals.{first, unless_refused}
 use Rattle.units.specs.Signs.{signed, Between}
@@ -29,8 +29,8 @@ abbrev pub total_from : Ends → Bool → ℕ → List UnitCount → Result ℤ 
 total_from e b n cs = unless_refused (first (all_refusals e b n cs)) (signed b (n + time_of cs))
 
 pub record InRange (e : Ends) (b : Bool) (cs : List UnitCount) : Type 0 where
-  pub clock : All (λ c. calendar c.unit ≡ false) cs
-  pub counts : All (λ c. Between e.lowest_count e.highest_count (signed b c.magnitude)) cs
+  pub clock : AllByRecursion (λ c. calendar c.unit ≡ false) cs
+  pub counts : AllByRecursion (λ c. Between e.lowest_count e.highest_count (signed b c.magnitude)) cs
   pub total : Between e.lowest_total e.highest_total (signed b (time_of cs))
 
 abbrev pub Summed : {R : Type 0} → (R → ℤ) → Ends → Bool → List UnitCount → Result R Fault → Type 0

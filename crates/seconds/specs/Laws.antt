@@ -4,14 +4,14 @@
 --     Says bs n       the line bs says n nanoseconds: digits, and perhaps a separator and one to nine digits more
 --     Reads bs r      r, the answer to the line bs, is n nanoseconds exactly when the line says them
 use Rattle.std.specs.Prelude.{◌≡◌, ℕ, ◌+◌, ◌*◌, ◌^◌, ◌<◌, ◌≤◌, true, ◌↔◌, List, [], ◌∷◌, ◌++◌, length, Ok, Result}
-use Rattle.std.specs.List.{AllByRecursion as All}
+use Rattle.std.specs.List.{AllByRecursion}
 use Rattle.units.specs.declared.fault.Fault.{Fault}
 use Rattle.units.specs.declared.unit.Unit.TheVariants.{Second}
 use Rattle.units.specs.Table.{ns}
 use Rattle.digits.specs.Numbers.{is_digit, is_separator, number, billionths}
 
 abbrev pub Digits : List ℕ → Type 0
-Digits ds = All (λ d. is_digit d ≡ true) ds
+Digits ds = AllByRecursion (λ d. is_digit d ≡ true) ds
 
 abbrev pub Ends : List ℕ → List ℕ → Type 0
 Ends [] part = part ≡ []

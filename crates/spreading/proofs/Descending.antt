@@ -6,7 +6,7 @@
 --     room ls      the time that the limits have room for
 use Rattle.std.proofs.Common.{◌≡◌, ℕ, zero, suc, ◌+◌, ◌-◌, ◌*◌, ◌/◌, ◌<◌, ◌≤◌, List, [], ◌∷◌, map, length, get_or, drop, refl, ap, ◌∙◌, inl, inr, mul-le-mul_right, mul_assoc, mul_comm, add-mul, le-div_iff_mul-le, div-mul-le_self, mul-div_cancel, arith}
 use native.Mathlib.Nat.{mul-add-div_right, mul-sub}
-use Rattle.std.specs.List.{AllByRecursion as All}
+use Rattle.std.specs.List.{AllByRecursion}
 use Rattle.std.proofs.lemmas.Bool.{cases_lt}
 use Rattle.spreading.specs.Spreading.{Level, stays, left, kept}
 
@@ -47,9 +47,9 @@ Multiple n x = (q : ℕ) × (x ≡ q * n)
 
 abbrev pub Chain : List Level → Type 0
 Chain [] = Unit {0}
-Chain (l ∷ ls) = (0 < l.nanos) × All (λ m. Multiple l.nanos m.nanos) ls × Chain ls
+Chain (l ∷ ls) = (0 < l.nanos) × AllByRecursion (λ m. Multiple l.nanos m.nanos) ls × Chain ls
 
-time_multiple : (n : ℕ) (ls : List Level) (ks : List ℕ) → All (λ m. Multiple n m.nanos) ls → Multiple n (time ls ks)
+time_multiple : (n : ℕ) (ls : List Level) (ks : List ℕ) → AllByRecursion (λ m. Multiple n m.nanos) ls → Multiple n (time ls ks)
 unfolding time
 time_multiple n [] ks a = (0, omega arith)
 time_multiple n (l ∷ ls) [] a = (0, omega arith)
@@ -115,12 +115,12 @@ drain_under (l ∷ ls) (m ∷ ms) u = omega (arith, drain_under ls ms u.2, u.0, 
 
 -- whole units at each level
 abbrev pub Whole : List Level → Type 0
-Whole ls = All (λ l. Multiple l.nanos l.written) ls
+Whole ls = AllByRecursion (λ l. Multiple l.nanos l.written) ls
 
 multiple_of : (n m x : ℕ) → Multiple n m → Multiple m x → Multiple n x
 multiple_of n m x a b = (b.0 * a.0, omega (arith, b.1, ap (λ y. b.0 * y) a.1, mul_assoc b.0 a.0 n))
 
-held_multiple : (n : ℕ) (ls : List Level) → Whole ls → All (λ m. Multiple n m.nanos) ls → Multiple n (held ls)
+held_multiple : (n : ℕ) (ls : List Level) → Whole ls → AllByRecursion (λ m. Multiple n m.nanos) ls → Multiple n (held ls)
 unfolding held
 held_multiple n [] w a = (0, omega arith)
 held_multiple n (l ∷ ls) w a =
@@ -128,7 +128,7 @@ held_multiple n (l ∷ ls) w a =
     let y = held_multiple n ls w.1 a.1 in
     (x.0 + y.0, omega (arith, x.1, y.1, add-mul x.0 y.0 n))
 
-left_multiple : (n : ℕ) (ls : List Level) → Whole ls → All (λ m. Multiple n m.nanos) ls → Multiple n (left ls)
+left_multiple : (n : ℕ) (ls : List Level) → Whole ls → AllByRecursion (λ m. Multiple n m.nanos) ls → Multiple n (left ls)
 left_multiple n ls w a =
     let h = held_multiple n ls w a in
     let k = time_multiple n ls (kept ls) a in
