@@ -2,10 +2,10 @@
 .PHONY: run test fmt
 
 run:
-	rt check addup && target/bin/addup < crates/addup/stdin
+	cd crates/addup && rt run < stdin
 
 test:
-	rt ci
+	.ci/run
 
 fmt:
-	rt fmt
+	for crate in crates/*; do (cd $$crate && rt fmt) || exit 1; done

@@ -1,3 +1,4 @@
 pub mod Bitwise
+pub mod Sameness
 pub mod Setting
 pub mod Units

@@ -6,8 +6,10 @@
 --     with_value s u z     the span s with the value z at the unit u, or SpanLimitPassed where its magnitude passes the limit of u
 --     clock_total s        the signed time of its clock magnitudes, in nanoseconds
 --     same a b             the spans a and b have the same magnitudes and the same sign
+--     Sameness             spans are the same exactly when all that they show is equal
 --     Told s               what holds of every span s
 use Rattle.std.specs.Prelude.{◌≡◌, ℕ, ◌≤◌, Bool, not, List, replicate, ℤ, Result, ◌==◌, nat_lt, slice_index, slice_set, unsigned_abs}
+use Rattle.std.specs.Bool.{Decides}
 use Rattle.std.specs.Ordering.{eq_of_both, on}
 use Rattle.std.specs.Cmp.Lexicographic.{pointwise}
 use Rattle.units.specs.declared.fault.Fault.{Fault}
@@ -45,6 +47,9 @@ clock_total s = signed (is_negative s.sign) (time_from 0 s.magnitudes)
 
 abbrev pub same : Span → Span → Bool
 same = eq_of_both (on (λ s. s.magnitudes) (pointwise ◌==◌)) (on (λ s. side s.sign) ◌==◌)
+
+abbrev pub Sameness : Type 0
+Sameness = (a b : Span) → Decides (same a b) (shown a ≡ shown b)
 
 pub record Told (s : Span) : Type 0 where
   -- no magnitude passes its limit

@@ -6,7 +6,7 @@ ghost use Rattle.durations.specs.Totals.{total};
 use super::SignedDuration;
 use std::fmt;
 
-// Nanoseconds as nine digits: a width in a format has no contract.
+// Nanoseconds as nine digits.
 #[derive(Clone, Copy)]
 struct NineDigits(u32);
 

@@ -2,7 +2,7 @@
 ghost use Rattle.std.specs.Prelude.{◌≡◌, ◌==◌};
 ghost use Rattle.std.specs.Bool.{Decides};
 ghost use Rattle.spans.specs.Magnitudes.{side};
-ghost use Rattle.spans.specs.Spans.{shown, same};
+ghost use Rattle.spans.specs.Spans.{shown, same, Sameness};
 ghost use Rattle.std.specs.Cmp.Rules.{comparing};
 ghost use Rattle.std.proofs.Common.{rules};
 
@@ -25,9 +25,11 @@ impl PartialEq for Span {
 
     ghost laws = { Prim.search (comparing, rules) };
 
+    #[tactic(auto, using(crate::proofs::Sameness::sameness))]
     fn eq(&self, other: &Span) -> bool
         ensures value { result ≡ same self.now other.now }
         ensures decided { Decides result (shown self.now ≡ shown other.now) }
+        ensures law { Sameness }
     {
         self.magnitudes == other.magnitudes && same_sign(self.sign, other.sign)
     }

@@ -1,15 +1,14 @@
-use Rattle.std.proofs.Common.{◌≡◌, Bool, refl, sym, ap, ◌∙◌, arith, rules}
+-- Spans with the same magnitudes and the same sign show the same. Assumes nothing.
+use Rattle.std.proofs.Common.{◌≡◌, refl, sym, ap, ◌∙◌, arith}
 use Rattle.std.proofs.lemmas.Slice.Eq.{slice_eq-Decides}
 use Rattle.std.proofs.lemmas.Bool.Decides.{Decides-eqb}
 use Rattle.std.proofs.lemmas.Bool.{and_parts}
-use Rattle.std.specs.Bool.{Decides}
 use Rattle.units.specs.declared.sign.Sign.{Sign}
 use Rattle.units.specs.declared.sign.Sign.TheVariants.{Negative, Zero, Positive}
 use Rattle.spans.specs.Bits.{bits_of}
 use Rattle.spans.specs.Magnitudes.{side}
-use Rattle.spans.specs.Spans.{shown, same}
+use Rattle.spans.specs.Spans.{shown, Sameness}
 use Rattle.spans.specs.declared.span.Span.{Span}
-use Rattle.spans.proofs.span.equality.SpanPartialEq.eq.Goals as goal
 
 same_side : (s t : Sign) → side s ≡ side t → s ≡ t
 same_side Negative Negative e = refl
@@ -26,19 +25,10 @@ same_side Positive Zero e = absurd (omega arith)
 alike : (a b : Span) → a.magnitudes ≡ b.magnitudes → a.sign ≡ b.sign → shown a ≡ shown b
 alike a b m s = let bits = a.told ∙ ap bits_of m ∙ sym b.told in cc
 
-told : (a b : Span) → Decides (same a b) (shown a ≡ shown b)
-told a b =
+pub sameness : Sameness
+sameness a b =
     let m = slice_eq-Decides Decides-eqb a.magnitudes b.magnitudes _ refl in
     let s = Decides-eqb (side a.sign) (side b.sign) in (
       λ h. let p = and_parts _ _ h in alike a b (m.0 p.0) (same_side a.sign b.sign (s.0 p.1)),
       λ e. rw (m.1 (ap (λ x. x.magnitudes) e)) (s.1 (ap (λ x. side x.sign) e)),
     )
-
-decided : (r : Bool) (a b : Span) → r ≡ same a b → Decides r (shown a ≡ shown b)
-decided r a b e = rw e (told a b)
-
-pub returns-then-eq-clause-decided : goal.returns-then-eq-clause-decided
-returns-then-eq-clause-decided c = decided _ c.args.self.now c.args.other.now (search rules)
-
-pub returns-else-eq-clause-decided : goal.returns-else-eq-clause-decided
-returns-else-eq-clause-decided c = decided _ c.args.self.now c.args.other.now (search rules)
