@@ -120,6 +120,7 @@ impl Unit {
     }
 
     // The unit of a code, absent above 9.
+    #[tactic(auto, using(crate::proofs::Tables::table_rule))]
     pub fn from_code(code: u8) -> Option<Unit>
         ensures unit { result ≡ unit_of code }
         ensures table { TableRule }
