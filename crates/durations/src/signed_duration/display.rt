@@ -6,7 +6,7 @@ ghost use Rattle.durations.specs.Totals.{total};
 use super::SignedDuration;
 use std::fmt;
 
-// Nanoseconds as nine digits.
+// What follows the point: nanoseconds, always nine digits.
 #[derive(Clone, Copy)]
 struct NineDigits(u32);
 
