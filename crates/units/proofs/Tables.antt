@@ -1,5 +1,5 @@
 -- The rule of the table of units: each part is one test that computes over all units. Assumes nothing.
-use Rattle.std.proofs.Common.{◌≡◌, ◌*◌, ◌/◌, ◌^◌, Bool, true, false, not, ◌&&◌, ◌||◌, eqb, ltb, leb, is_some, Some, sym, refl, arith}
+use Rattle.std.proofs.Common.{◌≡◌, ◌*◌, ◌/◌, ◌^◌, Bool, true, not, ◌&&◌, ◌||◌, eqb, ltb, leb, is_some, Some, refl, arith, rules}
 use Rattle.std.proofs.lemmas.Option.{slice_get_past}
 use Rattle.std.proofs.lemmas.Bool.{ltb-true}
 use Rattle.std.proofs.lemmas.Bool.Decides.{nat_tests}
@@ -12,28 +12,10 @@ abbrev all : (TimeUnit → Bool) → Bool
 all f = (f Nanosecond && (f Microsecond && (f Millisecond && (f Second && f Minute)))) && (f Hour && (f Day && (f Week && (f Month && f Year))))
 
 at : (f : TimeUnit → Bool) → all f ≡ true → (u : TimeUnit) → f u ≡ true
-at f e Nanosecond = grind arith
-at f e Microsecond = grind arith
-at f e Millisecond = grind arith
-at f e Second = grind arith
-at f e Minute = grind arith
-at f e Hour = grind arith
-at f e Day = grind arith
-at f e Week = grind arith
-at f e Month = grind arith
-at f e Year = grind arith
+at f e u = grind arith
 
 coded : (u : TimeUnit) → unit_of (code u) ≡ Some u
-coded Nanosecond = refl
-coded Microsecond = refl
-coded Millisecond = refl
-coded Second = refl
-coded Minute = refl
-coded Hour = refl
-coded Day = refl
-coded Week = refl
-coded Month = refl
-coded Year = refl
+coded u = search rules
 
 -- v is a whole number of u's, or smaller
 abbrev whole : TimeUnit → TimeUnit → Bool
@@ -48,10 +30,7 @@ abbrev alike : Bool → Bool → Bool
 alike a b = (a && b) || (not a && not b)
 
 from_alike : (a b : Bool) → alike a b ≡ true → a ≡ b
-from_alike true true e = refl
-from_alike true false e = sym e
-from_alike false true e = e
-from_alike false false e = refl
+from_alike a b e = grind arith
 
 pub table_rule : TableRule
 table_rule = record {

@@ -1,10 +1,11 @@
 -- The refusals. Assumes nothing: these are definitions.
 --     Refusal            a number, and what is told besides
 --     refusal f          what the fault f stands for
+--     refusal_text f     how it is written
 --     when b f           the fault f, if b
 --     first fs           the first fault of those that are met
 --     unless_refused o x x, unless a fault o is met
-use Rattle.std.specs.Prelude.{ℕ, Bool, true, false, List, [], ◌∷◌, Some, None, Ok, Err, Option, Result}
+use Rattle.std.specs.Prelude.{ℕ, Bool, true, false, List, [], ◌∷◌, ◌++◌, Some, None, Ok, Err, Option, Result, codes, decimal}
 use Rattle.units.specs.declared.fault.Told.{Told}
 use Rattle.units.specs.declared.fault.Told.TheVariants.{Nothing, Unit as One, Units, Byte}
 use Rattle.units.specs.declared.fault.Fault.{Fault}
@@ -42,6 +43,9 @@ refusal MissingDesignatorP = by 21 Nothing
 refusal MissingNumber = by 22 Nothing
 refusal WrongDesignator = by 23 Nothing
 refusal BufferTooShort = by 24 Nothing
+
+abbrev pub refusal_text : Fault → List ℕ
+refusal_text f = codes "refused " ++ decimal (refusal f).number
 
 abbrev pub when : Bool → Fault → Option Fault
 when true f = Some f

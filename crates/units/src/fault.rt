@@ -1,11 +1,13 @@
 // Why a call refuses: one fault type for all layers, passed up as it is.
-ghost use Rattle.std.specs.Prelude.{◌≡◌};
-ghost use Rattle.units.specs.Refusals.{refusal};
+ghost use Rattle.std.specs.Prelude.{◌≡◌, Some};
+ghost use Rattle.units.specs.Refusals.{refusal, refusal_text};
 
 use crate::unit::Unit;
+use std::error::Error;
+use std::fmt;
 
 // Each case carries exactly what its refusal tells.
-#[derive(Clone, Copy)]
+#[derive(Clone, Copy, PartialEq, Eq, Debug)]
 pub enum Fault {
     FractionAlreadySet,
     OutOfOrderUnits { found: Unit, previous: Unit },
@@ -34,7 +36,7 @@ pub enum Fault {
 }
 
 // What a refusal tells besides its number.
-#[derive(Clone, Copy)]
+#[derive(Clone, Copy, PartialEq, Eq, Debug)]
 pub enum Told {
     Nothing,
     Unit(Unit),
@@ -94,3 +96,15 @@ impl Fault {
         }
     }
 }
+
+// As a line of a report says it: the number alone.
+impl fmt::Display for Fault {
+    ghost output = { λ fault. Some (refusal_text fault) };
+
+    fn fmt<W: fmt::Write>(&self, f: &mut fmt::Formatter<W>) -> fmt::Result {
+        let number = self.number();
+        write!(f, "refused {number}")
+    }
+}
+
+impl Error for Fault {}

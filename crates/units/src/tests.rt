@@ -53,21 +53,10 @@ fn times(rt: HostRuntime) {
         (Unit::Day, 0, None),
     ];
     for (unit, count, expected) in cases {
-        let parts = match unit.time(count) {
-            Some(time) => Some((time.as_secs(), time.subsec_nanos())),
-            None => None,
-        };
+        let parts = unit
+            .time(count)
+            .map(|time| (time.as_secs(), time.subsec_nanos()));
         assert_eq!(rt; parts, expected);
-    }
-}
-
-// What is told, part by part.
-fn parts(told: Told) -> (Option<Unit>, Option<Unit>, Option<u8>) {
-    match told {
-        Told::Nothing => (None, None, None),
-        Told::Unit(unit) => (Some(unit), None, None),
-        Told::Units { found, previous } => (Some(found), Some(previous), None),
-        Told::Byte(byte) => (None, None, Some(byte)),
     }
 }
 
@@ -75,14 +64,17 @@ fn parts(told: Told) -> (Option<Unit>, Option<Unit>, Option<u8>) {
 #[test]
 fn refusals(rt: HostRuntime) {
     let (found, previous, unit) = (Unit::Week, Unit::Hour, Unit::Minute);
-    let week = (Some(Unit::Week), None, None);
-    let minute = (Some(Unit::Minute), None, None);
+    let week = Told::Unit(Unit::Week);
+    let minute = Told::Unit(Unit::Minute);
     let cases = [
-        (Fault::FractionAlreadySet, 1, (None, None, None)),
+        (Fault::FractionAlreadySet, 1, Told::Nothing),
         (
             Fault::OutOfOrderUnits { found, previous },
             2,
-            (Some(Unit::Week), Some(Unit::Hour), None),
+            Told::Units {
+                found: Unit::Week,
+                previous: Unit::Hour,
+            },
         ),
         (Fault::OutOfOrderHMS { found }, 3, week),
         (Fault::NotAllowedFractionalUnit { found }, 5, week),
@@ -94,12 +86,12 @@ fn refusals(rt: HostRuntime) {
         (
             Fault::InvalidFractionDigit { byte: 120 },
             18,
-            (None, None, Some(120)),
+            Told::Byte(120),
         ),
-        (Fault::BufferTooShort, 24, (None, None, None)),
+        (Fault::BufferTooShort, 24, Told::Nothing),
     ];
     for (fault, number, told) in cases {
         assert_eq!(rt; fault.number(), number);
-        assert_eq!(rt; parts(fault.tells()), told);
+        assert_eq!(rt; fault.tells(), told);
     }
 }

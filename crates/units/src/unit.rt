@@ -41,19 +41,6 @@ pub const SECS_PER_MINUTE: u64 = NANOS_PER_MINUTE / NANOS_PER_SEC;
 
 pub const SECS_PER_HOUR: u64 = NANOS_PER_HOUR / NANOS_PER_SEC;
 
-const UNITS: [Unit; 10] = [
-    Unit::Nanosecond,
-    Unit::Microsecond,
-    Unit::Millisecond,
-    Unit::Second,
-    Unit::Minute,
-    Unit::Hour,
-    Unit::Day,
-    Unit::Week,
-    Unit::Month,
-    Unit::Year,
-];
-
 // What the table says of one unit. A calendar unit has no fixed number of nanoseconds.
 #[derive(Clone, Copy)]
 struct Row {
@@ -78,14 +65,25 @@ impl Row {
 fn whole_seconds(count: u64, secs_each: u64) -> Option<Duration>
     ensures { MatchOption result (FitsDuration (count * secs_each * ns Second) → ⊥) (λ d. as_nanos d ≡ count * secs_each * ns Second) }
 {
-    let Some(secs) = count.checked_mul(secs_each) else {
-        return None;
-    };
-    Some(Duration::from_secs(secs))
+    Some(Duration::from_secs(count.checked_mul(secs_each)?))
 }
 
 impl Unit {
-    // The clock units, from the smallest to the largest, so each at its code.
+    // The units, from the smallest to the largest, so each at its code.
+    pub const ALL: [Unit; 10] = [
+        Unit::Nanosecond,
+        Unit::Microsecond,
+        Unit::Millisecond,
+        Unit::Second,
+        Unit::Minute,
+        Unit::Hour,
+        Unit::Day,
+        Unit::Week,
+        Unit::Month,
+        Unit::Year,
+    ];
+
+    // The clock units, each at its code.
     pub const CLOCK: [Unit; 6] = [
         Unit::Nanosecond,
         Unit::Microsecond,
@@ -125,7 +123,7 @@ impl Unit {
         ensures unit { result ≡ unit_of code }
         ensures table { TableRule }
     {
-        UNITS.get(usize::from(code)).copied()
+        Unit::ALL.get(usize::from(code)).copied()
     }
 
     // How many nanoseconds a clock unit has, absent for a calendar unit.
