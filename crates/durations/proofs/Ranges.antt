@@ -1,11 +1,10 @@
 -- What fits: sums, negations and carries of seconds and nanoseconds. Assumes nothing.
-use Rattle.std.proofs.Common.{◌≡◌, ◌+◌, ◌-◌, ◌^◌, ◌<◌, ℤ, pos, negsuc, ◌+ℤ◌, ◌-ℤ◌, ◌*ℤ◌, neg_ℤ, nat_abs, inl, inr, arith, w32, w64, SFits}
+use Rattle.std.proofs.Common.{◌≡◌, ◌+◌, ◌<◌, ℤ, pos, ◌+ℤ◌, ◌-ℤ◌, ◌*ℤ◌, neg_ℤ, nat_abs, arith, w32, w64, SFits}
 use lib.Signed.{quot_z, rem_z}
 use Rattle.std.proofs.lemmas.Int.{ints}
-use Rattle.std.proofs.lemmas.Bool.{cases_lt}
 use Rattle.units.specs.Table.{ns}
 use Rattle.units.specs.declared.unit.Unit.TheVariants.{Second}
-use Rattle.durations.specs.Totals.{Fits, Count}
+use Rattle.durations.specs.Totals.{Fits}
 use Rattle.durations.proofs.Parting.{cuts}
 
 pub sums : (a b p q s : ℤ) → s ≡ a +ℤ b → s *ℤ pos (ns Second) +ℤ (p +ℤ q) ≡ (a *ℤ pos (ns Second) +ℤ p) +ℤ (b *ℤ pos (ns Second) +ℤ q)
@@ -23,9 +22,6 @@ negated_small p h = omega (arith, ints)
 pub small_fits : (p : ℤ) → nat_abs p < ns Second → SFits w32 p
 small_fits p h = omega (arith, ints)
 
-pub lowest_alone : (s n : ℤ) → n ≡ neg_ℤ s → SFits w64 n → s ≡ neg_ℤ (pos (2 ^ 63)) → ⊥
-lowest_alone s n e fit low = omega (arith, ints)
-
 pub fits : (s p : ℤ) → SFits w64 s → nat_abs p < ns Second → Fits (s *ℤ pos (ns Second) +ℤ p)
 fits s p whole small = record { lowest = omega (arith, ints); highest = omega (arith, ints) }
 
@@ -34,13 +30,6 @@ fits_secs s whole = record { lowest = omega (arith, ints); highest = omega (arit
 
 pub sum_within : (a b p q : ℤ) → SFits w64 a → SFits w64 b → nat_abs p < ns Second → nat_abs q < ns Second → nat_abs (a +ℤ p) ≡ nat_abs a + nat_abs p → nat_abs (b +ℤ q) ≡ nat_abs b + nat_abs q → Fits ((a *ℤ pos (ns Second) +ℤ p) +ℤ (b *ℤ pos (ns Second) +ℤ q)) → SFits w64 (a +ℤ b)
 sum_within a b p q x y h l e f fit = omega (arith, ints)
-
-pub lowest : (s : ℤ) → SFits w64 s → (SFits w64 (neg_ℤ s) → ⊥) → s ≡ neg_ℤ (pos (2 ^ 63))
-lowest (pos n) fit none = absurd (none (omega (arith, ints)))
-lowest (negsuc n) fit none = elim (cases_lt n (2 ^ 63 - 1)) [ inl h ↦ absurd (none (omega (arith, ints))) | inr h ↦ omega (arith, ints) ]
-
-pub negated_out : (s p : ℤ) → nat_abs p < ns Second → nat_abs (s +ℤ p) ≡ nat_abs s + nat_abs p → s ≡ neg_ℤ (pos (2 ^ 63)) → Fits (neg_ℤ (s *ℤ pos (ns Second) +ℤ p)) → ⊥
-negated_out s p h e low fit = omega (arith, ints)
 
 pub wide : (p : ℤ) → SFits w32 p → SFits w64 p
 wide p h = omega (arith, ints)
@@ -53,6 +42,3 @@ carried_out s p q h e fit = let parts = cuts (ns Second) p (omega arith) in omeg
 
 pub rest_small : (p r : ℤ) → r ≡ rem_z p (pos (ns Second)) → nat_abs r < ns Second
 rest_small p r e = rw e (cuts (ns Second) p (omega arith)).short
-
-pub product_within : (x y : ℤ) → nat_abs (x +ℤ y) ≡ nat_abs x + nat_abs y → Count (x +ℤ y) → SFits w64 x
-product_within x y same count = omega (arith, ints)

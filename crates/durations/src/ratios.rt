@@ -4,15 +4,22 @@ ghost use Rattle.units.specs.Table.{ns};
 ghost use Rattle.units.specs.declared.unit.Unit.TheVariants.{Second};
 ghost use Rattle.durations.specs.Totals.{Count};
 
-pub(crate) const NANOS_PER_SEC: i64 = units::NANOS_PER_SEC as i64;
+use crate::fine_unit::FineUnit;
 
-pub(crate) const NANOS_PER_MILLI: i32 = units::NANOS_PER_MILLI as i32;
+pub(crate) const MILLISECOND: FineUnit = FineUnit {
+    per_sec: units::MILLIS_PER_SEC as i64,
+    nanos: units::NANOS_PER_MILLI as i32,
+};
 
-pub(crate) const NANOS_PER_MICRO: i32 = units::NANOS_PER_MICRO as i32;
+pub(crate) const MICROSECOND: FineUnit = FineUnit {
+    per_sec: units::MICROS_PER_SEC as i64,
+    nanos: units::NANOS_PER_MICRO as i32,
+};
 
-pub(crate) const MILLIS_PER_SEC: i64 = units::MILLIS_PER_SEC as i64;
-
-pub(crate) const MICROS_PER_SEC: i64 = units::MICROS_PER_SEC as i64;
+pub(crate) const NANOSECOND: FineUnit = FineUnit {
+    per_sec: units::NANOS_PER_SEC as i64,
+    nanos: 1,
+};
 
 pub(crate) const SECS_PER_MINUTE: i64 = units::SECS_PER_MINUTE as i64;
 
@@ -32,8 +39,5 @@ pub(crate) fn cut(count: i64, size: i64) -> (i64, i32)
 pub(crate) fn times_plus(count: i64, size: i64, more: i64) -> Option<i64>
     ensures { MatchOption result (unsigned_abs (count *ℤ size +ℤ more) ≡ unsigned_abs (count *ℤ size) + unsigned_abs more → Count (count *ℤ size +ℤ more) → ⊥) (λ sum. Count sum × (sum ≡ count *ℤ size +ℤ more)) }
 {
-    let Some(product) = count.checked_mul(size) else {
-        return None;
-    };
-    product.checked_add(more)
+    count.checked_mul(size)?.checked_add(more)
 }

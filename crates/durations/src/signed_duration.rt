@@ -1,4 +1,5 @@
 // A duration as whole seconds and nanoseconds, which are never of opposite signs.
+mod convert;
 mod counts;
 mod display;
 mod parts;

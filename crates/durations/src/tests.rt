@@ -1,27 +1,19 @@
 use crate::SignedDuration;
 use std::test::Fail;
+use std::time::Duration;
 
 const LOWEST: i64 = i64::MIN;
 
 const HIGHEST: i64 = i64::MAX;
 
 fn of(secs: i64, nanos: i64) -> Result<SignedDuration, Fail> {
-    let whole = SignedDuration::from_secs(secs);
-    let Some(sum) = whole.checked_add(SignedDuration::from_nanos(nanos)) else {
-        return Err(Fail::new("no such duration"));
-    };
-    Ok(sum)
+    let nanos = SignedDuration::from_nanos(nanos);
+    let sum = SignedDuration::from_secs(secs).checked_add(nanos);
+    Ok(sum.ok_or("no such duration")?)
 }
 
 fn parts(duration: SignedDuration) -> (i64, i32) {
     (duration.as_secs(), duration.subsec_nanos())
-}
-
-fn maybe(duration: Option<SignedDuration>) -> Option<(i64, i32)> {
-    match duration {
-        Some(duration) => Some(parts(duration)),
-        None => None,
-    }
 }
 
 #[test]
@@ -76,7 +68,7 @@ fn hours_and_minutes(rt: HostRuntime) {
         (SignedDuration::try_from_mins(90), Some((5_400, 0))),
     ];
     for (duration, expected) in cases {
-        assert_eq!(rt; maybe(duration), expected);
+        assert_eq!(rt; duration.map(parts), expected);
     }
 }
 
@@ -109,7 +101,7 @@ fn sums(rt: HostRuntime) -> Result<(), Fail> {
     ];
     for (left, right, expected) in cases {
         let sum = of(left.0, left.1)?.checked_add(of(right.0, right.1)?);
-        assert_eq!(rt; maybe(sum), expected);
+        assert_eq!(rt; sum.map(parts), expected);
     }
     Ok(())
 }
@@ -127,7 +119,7 @@ fn negations(rt: HostRuntime) -> Result<(), Fail> {
     ];
     for (duration, expected) in cases {
         let duration = of(duration.0, duration.1)?;
-        assert_eq!(rt; maybe(duration.checked_neg()), expected);
+        assert_eq!(rt; duration.checked_neg().map(parts), expected);
         assert_eq!(rt; duration.is_zero(), parts(duration) == (0, 0));
         assert_eq!(rt;
             duration.is_negative(),
@@ -169,10 +161,7 @@ fn whole_remainders(rt: HostRuntime) -> Result<(), Fail> {
 }
 
 fn pair(split: Option<(i64, SignedDuration)>) -> Option<(i64, (i64, i32))> {
-    match split {
-        Some(split) => Some((split.0, parts(split.1))),
-        None => None,
-    }
+    split.map(|(count, rest)| (count, parts(rest)))
 }
 
 #[test]
@@ -232,4 +221,20 @@ fn texts(rt: HostRuntime) -> Result<(), Fail> {
         assert_eq!(rt; format!(in rt.alloc(); "{duration}")?.as_str(), expected);
     }
     Ok(())
+}
+
+// The longest that converts, and a nanosecond more.
+#[test]
+fn conversions(rt: HostRuntime) {
+    let longest = Duration::new(HIGHEST as u64, 999_999_999);
+    let cases = [
+        (Duration::ZERO, Some((0, 0))),
+        (Duration::new(5_400, 1), Some((5_400, 1))),
+        (longest, Some((HIGHEST, 999_999_999))),
+        (longest + Duration::from_nanos(1), None),
+        (Duration::MAX, None),
+    ];
+    for (time, expected) in cases {
+        assert_eq!(rt; SignedDuration::try_from(time).ok().map(parts), expected);
+    }
 }

@@ -2,19 +2,19 @@
 ghost use Rattle.std.specs.Prelude.{◌≡◌, ◌*◌, pos, ◌*ℤ◌, ◌<ℤ◌, unsigned_abs};
 ghost use Rattle.units.specs.Table.{ns};
 ghost use Rattle.units.specs.declared.unit.Unit.TheVariants.{Nanosecond, Microsecond, Millisecond, Second, Minute, Hour};
-ghost use Rattle.durations.specs.Totals.{total, Exact, PerSecond};
+ghost use Rattle.durations.specs.Totals.{total, Exact};
 
 use super::SignedDuration;
+use crate::fine_unit::FineUnit;
 use crate::ratios::*;
 
 impl SignedDuration {
-    // So many units of which `per_sec` make a second, of `nanos_each` nanoseconds each.
-    fn of_fine_units(count: i64, per_sec: i64, nanos_each: i32) -> SignedDuration
-        requires { PerSecond per_sec nanos_each }
-        ensures { total result ≡ count *ℤ nanos_each }
+    // So many units smaller than a second.
+    fn of_fine_units(count: i64, unit: FineUnit) -> SignedDuration
+        ensures { total result ≡ count *ℤ unit.nanos }
     {
-        let (secs, rest) = cut(count, per_sec);
-        SignedDuration::of_parts(secs, rest * nanos_each)
+        let (secs, rest) = cut(count, unit.per_sec);
+        SignedDuration::of_parts(secs, rest * unit.nanos)
     }
 
     // So many units of `secs_each` seconds each, absent exactly when no duration lasts so long.
@@ -22,9 +22,7 @@ impl SignedDuration {
         requires { pos 0 <ℤ secs_each }
         ensures { Exact result (count *ℤ pos (unsigned_abs secs_each * ns Second)) }
     {
-        let Some(secs) = count.checked_mul(secs_each) else {
-            return None;
-        };
+        let secs = count.checked_mul(secs_each)?;
         Some(SignedDuration::from_secs(secs))
     }
 
@@ -38,19 +36,19 @@ impl SignedDuration {
     pub fn from_millis(millis: i64) -> SignedDuration
         ensures { total result ≡ millis *ℤ pos (ns Millisecond) }
     {
-        SignedDuration::of_fine_units(millis, MILLIS_PER_SEC, NANOS_PER_MILLI)
+        SignedDuration::of_fine_units(millis, MILLISECOND)
     }
 
     pub fn from_micros(micros: i64) -> SignedDuration
         ensures { total result ≡ micros *ℤ pos (ns Microsecond) }
     {
-        SignedDuration::of_fine_units(micros, MICROS_PER_SEC, NANOS_PER_MICRO)
+        SignedDuration::of_fine_units(micros, MICROSECOND)
     }
 
     pub fn from_nanos(nanos: i64) -> SignedDuration
         ensures { total result ≡ nanos *ℤ pos (ns Nanosecond) }
     {
-        SignedDuration::of_fine_units(nanos, NANOS_PER_SEC, 1)
+        SignedDuration::of_fine_units(nanos, NANOSECOND)
     }
 
     // Absent exactly when no duration lasts so long, as is the next.

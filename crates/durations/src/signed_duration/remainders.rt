@@ -2,9 +2,10 @@
 ghost use Rattle.std.specs.Prelude.{◌*◌, pos, ◌≤ℤ◌, ◌<ℤ◌, unsigned_abs};
 ghost use Rattle.units.specs.Table.{ns};
 ghost use Rattle.units.specs.declared.unit.Unit.TheVariants.{Microsecond, Millisecond, Second, Minute, Hour};
-ghost use Rattle.durations.specs.Totals.{total, PerSecond, Split, Counted, Cuts};
+ghost use Rattle.durations.specs.Totals.{total, Split, Counted, Cuts};
 
 use super::SignedDuration;
+use crate::fine_unit::FineUnit;
 use crate::ratios::*;
 
 impl SignedDuration {
@@ -18,15 +19,12 @@ impl SignedDuration {
         (count, rest)
     }
 
-    // The whole units of which so many make a second, of so many nanoseconds each, and what is left.
-    fn fine_units(&self, per_sec: i64, nanos_each: i32) -> Option<(i64, SignedDuration)>
-        requires { PerSecond per_sec nanos_each }
-        ensures { Counted (unsigned_abs nanos_each) (total self.now) result }
+    // The whole units smaller than a second, and what is left.
+    fn fine_units(&self, unit: FineUnit) -> Option<(i64, SignedDuration)>
+        ensures { Counted (unsigned_abs unit.nanos) (total self.now) result }
     {
-        let (units, nanos) = cut(self.nanos as i64, nanos_each as i64);
-        let Some(count) = times_plus(self.secs, per_sec, units) else {
-            return None;
-        };
+        let (units, nanos) = cut(self.nanos as i64, unit.nanos as i64);
+        let count = times_plus(self.secs, unit.per_sec, units)?;
         let rest = SignedDuration::of_parts(0, nanos);
         Some((count, rest))
     }
@@ -44,6 +42,7 @@ impl SignedDuration {
         self.whole_units(SECS_PER_MINUTE)
     }
 
+    #[tactic(auto, using(crate::proofs::Parting::cuts))]
     pub fn as_secs_with_remainder(&self) -> (i64, SignedDuration)
         ensures parts { Split (ns Second) (total self.now) result }
         ensures toward_zero { Cuts }
@@ -55,12 +54,12 @@ impl SignedDuration {
     pub fn as_millis_with_remainder(&self) -> Option<(i64, SignedDuration)>
         ensures { Counted (ns Millisecond) (total self.now) result }
     {
-        self.fine_units(MILLIS_PER_SEC, NANOS_PER_MILLI)
+        self.fine_units(MILLISECOND)
     }
 
     pub fn as_micros_with_remainder(&self) -> Option<(i64, SignedDuration)>
         ensures { Counted (ns Microsecond) (total self.now) result }
     {
-        self.fine_units(MICROS_PER_SEC, NANOS_PER_MICRO)
+        self.fine_units(MICROSECOND)
     }
 }

@@ -35,9 +35,7 @@ impl SignedDuration {
         ensures { Exact result (secs *ℤ pos (ns Second) +ℤ nanos) }
     {
         let (carry, rest) = cut(nanos as i64, NANOS_PER_SEC as i64);
-        let Some(secs) = secs.checked_add(carry) else {
-            return None;
-        };
+        let secs = secs.checked_add(carry)?;
         Some(SignedDuration::of_parts(secs, rest))
     }
 
@@ -45,9 +43,7 @@ impl SignedDuration {
     pub fn checked_add(self, rhs: SignedDuration) -> Option<SignedDuration>
         ensures { Exact result (total self +ℤ total rhs) }
     {
-        let Some(secs) = self.secs.checked_add(rhs.secs) else {
-            return None;
-        };
+        let secs = self.secs.checked_add(rhs.secs)?;
         SignedDuration::balanced(secs, self.nanos + rhs.nanos)
     }
 
@@ -56,9 +52,7 @@ impl SignedDuration {
         ensures value { Exact result (neg_ℤ (total self)) }
         ensures absent { (result ≡ None → self.secs ≡ neg_ℤ (pos (2 ^ 63))) × (self.secs ≡ neg_ℤ (pos (2 ^ 63)) → result ≡ None) }
     {
-        let Some(secs) = self.secs.checked_neg() else {
-            return None;
-        };
+        let secs = self.secs.checked_neg()?;
         Some(SignedDuration::of_parts(secs, -self.nanos))
     }
 }

@@ -3,22 +3,14 @@ use Rattle.std.proofs.lemmas.Int.{to_z-of_z}
 use Rattle.durations.proofs.Ranges.{sums, small_fits, sum_fits, sum_within}
 use Rattle.durations.proofs.signed_duration.SignedDuration.checked_add.Goals as goal
 
-pub overflow_add-self : goal.overflow_add-self
-overflow_add-self c =
-    let a = c.args.self in
-    let b = c.args.rhs in
-    let fp = small_fits a.nanos a.small in
-    let fq = small_fits b.nanos b.small in
-    simp to_z-of_z (sum_fits a.nanos b.nanos a.small b.small)
-
-pub returns-in_default : goal.returns-in_default
-returns-in_default c = λ fit.
+pub returns-in_err-secs : goal.returns-in_err-secs
+returns-in_err-secs c = rw c.from_residual.ensures (λ fit.
     let a = c.args.self in
     let b = c.args.rhs in
     let fa : SFits w64 a.secs = search rules in
     let fb : SFits w64 b.secs = search rules in
-    let none : SFits w64 (a.secs +ℤ b.secs) → ⊥ = simp to_z-of_z at c.in_default.ensures in
-    none (sum_within a.secs b.secs a.nanos b.nanos fa fb a.small b.small a.one_sign b.one_sign fit)
+    let none : SFits w64 (a.secs +ℤ b.secs) → ⊥ = simp to_z-of_z at c.in_err-secs.ensures in
+    none (sum_within a.secs b.secs a.nanos b.nanos fa fb a.small b.small a.one_sign b.one_sign fit))
 
 pub returns : goal.returns
 returns c =
@@ -28,7 +20,7 @@ returns c =
     let fb : SFits w64 b.secs = search rules in
     let fp = small_fits a.nanos a.small in
     let fq = small_fits b.nanos b.small in
-    let fs : SFits w64 c.in-Some.secs = search rules in
+    let fs : SFits w64 c.in_ok-secs.secs = search rules in
     let fn = sum_fits a.nanos b.nanos a.small b.small in
-    let is : c.in-Some.secs ≡ a.secs +ℤ b.secs = simp to_z-of_z at c.in-Some.ensures.1 in
-    rw (sums a.secs b.secs a.nanos b.nanos c.in-Some.secs is) at (simp to_z-of_z at c.balanced.ensures)
+    let is : c.in_ok-secs.secs ≡ a.secs +ℤ b.secs = simp to_z-of_z at c.in_ok-secs.ensures.1 in
+    rw (sums a.secs b.secs a.nanos b.nanos c.in_ok-secs.secs is) at (simp to_z-of_z at c.balanced.ensures)
