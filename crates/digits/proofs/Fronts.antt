@@ -1,9 +1,9 @@
 -- The digits at the front, and the loop that counts them.
-use Rattle.std.proofs.Common.{◌≡◌, ℕ, zero, suc, ◌+◌, ◌-◌, ◌<◌, ◌≤◌, true, false, List, [], ◌∷◌, ◌++◌, length, get_or, take, drop, None, sym, refl, ap, ◌∙◌, inl, inr, arith}
-use Rattle.std.proofs.lemmas.List.{drop_at, drop_more, get_or_past, take_at}
+use Rattle.std.proofs.Common.{◌≡◌, ℕ, zero, suc, ◌<◌, ◌≤◌, true, false, List, [], ◌∷◌, ◌++◌, length, take, None, sym, refl, ap, ◌∙◌, inl, inr, arith}
+use Rattle.std.proofs.lemmas.List.{drop_at, take_at}
 use Rattle.std.proofs.lemmas.Bool.{cases_Bool}
 use Rattle.std.proofs.lemmas.Bool.Decides.{nat_tests}
-use Rattle.std.specs.List.{AllByRecursion}
+use Rattle.std.specs.List.{AllByRecursion, prefix_len}
 use Rattle.digits.specs.Numbers.{is_digit, front, behind, first_other}
 use Rattle.digits.specs.Laws.{Front, digit_leads}
 
@@ -36,30 +36,12 @@ unfolding first_other
 all_digits [] h = refl
 all_digits (d ∷ ds) h = rw h.0 (all_digits ds h.1)
 
-pub front_more : (m i : ℕ) (bs : List ℕ) → i < m → i < length bs → is_digit (get_or bs i 0) ≡ true → i + length (front (m - i) (drop i bs)) ≡ (i + 1) + length (front (m - (i + 1)) (drop (i + 1) bs))
+-- the digits at the front by the library's words
+pub front_len : (m : ℕ) (bs : List ℕ) → prefix_len is_digit (take m bs) ≡ length (front m bs)
 unfolding front
-front_more m i bs h l e =
-    let less : m - i ≡ suc (m - (i + 1)) = omega arith in
-    rw (less, drop_more bs i 0 l, e) (omega arith)
+front_len zero bs = refl
+front_len (suc m) [] = refl
+front_len (suc m) (b ∷ bs) = let more = front_len m bs in grind (arith, nat_tests)
 
--- past the end of the bytes `get_or` gives 0, which is no digit either
-front_other : (m i : ℕ) (bs : List ℕ) → is_digit (get_or bs i 0) ≡ false → front m (drop i bs) ≡ []
-unfolding front
-front_other zero i bs e = refl
-front_other (suc m) zero [] e = refl
-front_other (suc m) zero (b ∷ bs) e = rw e
-front_other (suc m) (suc i) [] e = refl
-front_other (suc m) (suc i) (b ∷ bs) e = front_other (suc m) i bs e
-
-front_none : (m i : ℕ) (bs : List ℕ) → m ≤ i → front (m - i) bs ≡ []
-unfolding front
-front_none m i bs h = let none : m - i ≡ 0 = omega arith in rw none
-
-pub front_whole : (m i : ℕ) (bs : List ℕ) → i + length (front (m - i) (drop i bs)) ≡ length (front m bs) → (i < m → i < length bs → is_digit (get_or bs i 0) ≡ true → ⊥) → (take i bs ≡ front m bs) × (drop i bs ≡ behind m bs)
-front_whole m i bs h stop =
-    let none = front_none m i (drop i bs) in
-    let other = front_other (m - i) i bs in
-    let past = get_or_past bs i 0 in
-    let stops : front (m - i) (drop i bs) ≡ [] = grind (arith, nat_tests) in
-    let all : length (front m bs) ≡ i = omega (arith, ap length stops) in
-    (ap (take i) (sym (front_law m bs).whole) ∙ take_at (front m bs) (behind m bs) i all, rw all)
+pub front_taken : (m : ℕ) (bs : List ℕ) → take (length (front m bs)) bs ≡ front m bs
+front_taken m bs = ap (take _) (sym (front_law m bs).whole) ∙ take_at (front m bs) (behind m bs) _ refl

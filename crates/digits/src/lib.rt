@@ -3,10 +3,11 @@
 // two clauses: `answer` equates it with its definition, and `law` says what that amounts to.
 #![tactic(auto)]
 
-ghost use Rattle.std.specs.Prelude.{◌≡◌, ◌+◌, ◌-◌, ◌*◌, ◌^◌, ◌<◌};
+ghost use Rattle.std.specs.Prelude.{◌≡◌, ◌+◌, ◌-◌, ◌*◌, ◌^◌, ◌<◌, ◌≤◌, length, take};
 ghost use Rattle.std.specs.Option.{SomeIff};
+ghost use Rattle.std.specs.List.{prefix_len};
 ghost use Rattle.digits.specs.Laws.{PrefixLaw, FractionLaw, TemporalLaw};
-ghost use Rattle.digits.specs.Numbers.{is_separator, number, front, behind, u64_prefix, fraction_of, after_separator, temporal_fraction, seen};
+ghost use Rattle.digits.specs.Numbers.{is_digit, number, front, behind, u64_prefix, fraction_of, after_separator, temporal_fraction, seen};
 
 use units::Fault;
 
@@ -15,22 +16,25 @@ const WHOLE_DIGITS: usize = 21;
 // The most digits of a fraction, which is counted in billionths.
 const FRACTION_DIGITS: usize = 9;
 
-fn is_separator(byte: u8) -> bool
-    ensures { result ≡ is_separator byte }
+// How many digits lead, at most `most` of them counted.
+fn digits_len(bytes: &[u8], most: usize) -> usize
+    ensures value { result ≡ prefix_len is_digit (take most bytes.now) }
+    ensures within { result ≤ length bytes.now }
 {
-    byte == b'.' || byte == b','
+    bytes
+        .iter()
+        .take(most)
+        .take_while(|byte| byte.is_ascii_digit())
+        .count()
 }
 
 // The digits that lead, at most `most` of them, and the remaining bytes.
+#[tactic(auto, using(crate::proofs::Fronts::front_len, crate::proofs::Fronts::front_taken))]
 fn split_digits(bytes: &[u8], most: usize) -> (&[u8], &[u8])
     ensures digits { result.0.now ≡ front most bytes.now }
     ensures rest { result.1.now ≡ behind most bytes.now }
 {
-    let mut count = 0;
-    while count < most && count < bytes.len() && bytes[count].is_ascii_digit() {
-        count += 1;
-    }
-    bytes.split_at(count)
+    bytes.split_at(digits_len(bytes, most))
 }
 
 // The value with one digit more behind it, if it is below 2^64. A byte below `0` counts as `0`.
@@ -62,9 +66,7 @@ pub fn u64_prefix(bytes: &[u8]) -> Result<(Option<u64>, &[u8]), Fault>
     if digits.is_empty() {
         return Ok((None, bytes));
     }
-    let Some(value) = parse_u64(digits) else {
-        return Err(Fault::IntegerTooBig);
-    };
+    let value = parse_u64(digits).ok_or(Fault::IntegerTooBig)?;
     Ok((Some(value), rest))
 }
 
@@ -108,12 +110,9 @@ pub fn parse_temporal_fraction(input: &[u8]) -> Result<(Option<u32>, &[u8]), Fau
     ensures answer { seen result ≡ temporal_fraction input.now }
     ensures law { TemporalLaw input.now (seen result) }
 {
-    let [first, rest @ ..] = input else {
+    let [b'.' | b',', rest @ ..] = input else {
         return Ok((None, input));
     };
-    if !is_separator(*first) {
-        return Ok((None, input));
-    }
     fraction_prefix(rest)
 }
 
@@ -124,13 +123,10 @@ mod tests {
 
     // A refusal by its number and the byte that it tells, 0 if it tells none.
     fn numbered<T>(res: Result<T, Fault>) -> Result<T, (u8, u8)> {
-        match res {
-            Ok(value) => Ok(value),
-            Err(fault) => match fault.tells() {
-                Told::Byte(byte) => Err((fault.number(), byte)),
-                _ => Err((fault.number(), 0)),
-            },
-        }
+        res.map_err(|fault| match fault.tells() {
+            Told::Byte(byte) => (fault.number(), byte),
+            _ => (fault.number(), 0),
+        })
     }
 
     #[test]

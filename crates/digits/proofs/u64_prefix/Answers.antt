@@ -6,8 +6,8 @@ use Rattle.digits.proofs.u64_prefix.Goals as goal
 pub returns-then-is_empty : goal.returns-then-is_empty
 returns-then-is_empty c = with_law (PrefixLaw _) (prefix_law _) (search rules)
 
-pub returns-in_default : goal.returns-in_default
-returns-in_default c = with_law (PrefixLaw _) (prefix_law _) (search rules)
+pub returns-in_err-value : goal.returns-in_err-value
+returns-in_err-value c = with_law (PrefixLaw _) (prefix_law _) (search rules)
 
 pub returns : goal.returns
 returns c = with_law (PrefixLaw _) (prefix_law _) (search rules)
