@@ -1,4 +1,2 @@
 pub mod Exactly
-pub mod Halves
-pub mod Moving
 pub mod Turns

@@ -11,7 +11,7 @@ use Rattle.units.specs.declared.fault.Fault.{Fault}
 use Rattle.units.specs.Refusals.{first, unless_refused}
 use Rattle.units.specs.Signs.{signed, Between}
 use Rattle.units.specs.Table.{ns, calendar}
-use Rattle.receivers.specs.declared.sums.UnitCount.{UnitCount}
+use Rattle.receivers.specs.declared.unit_count.UnitCount.{UnitCount}
 use Rattle.receivers.specs.Takes.{Ends, refusals}
 
 abbrev pub time : UnitCount → ℕ

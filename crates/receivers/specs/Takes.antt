@@ -5,10 +5,11 @@
 --     refusals e t z u      why a receiver with the ends e and the total t refuses that count: each fault where it applies, in order
 --     answer e t z u        the first of these, or acceptance
 --     total_after t z u r   the total once the answer is r
+--     Taken f e t z u r     r, of total f, is what is kept once the count is accepted, or why it is refused
 --     Takes e t z u r e' t' what a take does: the answer r, and the ends e' and the total t' that it leaves
 --     Acceptable e t z u    the unit is a clock unit, the count is in the range of counts, the new total in that of totals
 --     Accepts               a count is accepted exactly when it is acceptable
-use Rattle.std.specs.Prelude.{◌≡◌, false, not, ◌↔◌, List, [], ◌∷◌, ℤ, pos, ◌+ℤ◌, ◌*ℤ◌, ◌≤ℤ◌, Ok, Err, Option, Result}
+use Rattle.std.specs.Prelude.{◌≡◌, false, not, ◌↔◌, List, [], ◌∷◌, ℤ, pos, ◌+ℤ◌, ◌*ℤ◌, ◌≤ℤ◌, Ok, Err, Option, Result, MatchResult}
 use Rattle.units.specs.declared.fault.Fault.{Fault}
 use Rattle.units.specs.declared.fault.Fault.TheVariants.{NotAllowedCalendarUnit, SignedOverflowForUnit, OverflowForUnit}
 use Rattle.units.specs.declared.unit.Unit.{Unit as TimeUnit}
@@ -44,6 +45,9 @@ answer e t z u = unless_refused (first (refusals e t z u)) tt
 abbrev pub total_after : ℤ → ℤ → TimeUnit → Result (Unit {0}) Fault → ℤ
 total_after t z u (Ok _) = moved t z u
 total_after t z u (Err f) = t
+
+abbrev pub Taken : {T : Type 0} → (T → ℤ) → Ends → ℤ → ℤ → TimeUnit → Result T Fault → Type 0
+Taken total e t z u r = MatchResult r (λ d. (answer e t z u ≡ Ok tt) × (total d ≡ moved t z u)) (λ f. answer e t z u ≡ Err f)
 
 pub record Takes (e : Ends) (t z : ℤ) (u : TimeUnit) (r : Result (Unit {0}) Fault) (e' : Ends) (t' : ℤ) : Type 0 where
   pub answered : r ≡ answer e t z u

@@ -1,9 +1,11 @@
-// What the receivers of this crate judge alike.
-ghost use Rattle.std.specs.Prelude.{◌≡◌, ◌^◌, ◌<◌, ℤ};
+// What the receivers of this crate share.
+ghost use Rattle.std.specs.Prelude.{◌≡◌, ℤ, ◌+ℤ◌, FitsSigned};
+ghost use Rattle.std.specs.Int.{w64};
+ghost use Rattle.std.specs.Option.{SomeIff};
 ghost use Rattle.units.specs.Signs.{signed, within};
-ghost use Rattle.receivers.specs.Keeping.{Keeps, Taken};
+ghost use Rattle.receivers.specs.Keeping.{Keeps};
 ghost use Rattle.receivers.specs.Ranges.{run_ends};
-ghost use Rattle.receivers.specs.Takes.{Ends};
+ghost use Rattle.receivers.specs.Takes.{Ends, Taken};
 
 use units::{Fault, Unit};
 
@@ -21,23 +23,19 @@ pub(crate) fn judged<T: Drop>(unit: Unit, counted: bool, kept: Option<T>) -> Res
     kept.ok_or(Fault::OverflowForUnit { unit })
 }
 
+// A number moved by a signed size, absent exactly when the sum is no i64.
+pub(crate) fn plus_signed(number: i64, size: u64, negative: bool) -> Option<i64>
+    ensures { SomeIff result (FitsSigned w64 (number +ℤ signed negative size)) (number +ℤ signed negative size) }
+{
+    if negative {
+        return number.checked_sub_unsigned(size);
+    }
+    number.checked_add_unsigned(size)
+}
+
 // Whether a signed magnitude is an i64.
 pub(crate) fn fits_i64(magnitude: u64, negative: bool) -> bool
     ensures { result ≡ within run_ends.lowest_count run_ends.highest_count (signed negative magnitude) }
 {
-    if negative {
-        return magnitude <= 1 << 63;
-    }
-    magnitude < 1 << 63
-}
-
-// A magnitude with its sign.
-pub(crate) fn with_sign(magnitude: u64, negative: bool) -> i64
-    requires { magnitude < 2 ^ 63 }
-    ensures { result ≡ signed negative magnitude }
-{
-    if negative {
-        return -(magnitude as i64);
-    }
-    magnitude as i64
+    plus_signed(0, magnitude, negative).is_some()
 }

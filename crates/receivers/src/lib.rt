@@ -9,8 +9,10 @@ mod signed;
 mod sums;
 #[cfg(test)]
 mod tests;
+mod unit_count;
 mod unsigned;
 
 pub use receiver::Receiver;
 pub use run_counter::RunCounter;
-pub use sums::{UnitCount, take_all};
+pub use sums::take_all;
+pub use unit_count::UnitCount;

@@ -1,25 +1,39 @@
 // What takes counts of time and keeps their total.
-ghost use Rattle.std.specs.Prelude.{◌≡◌, ℤ, pos, int_lt};
+ghost use Rattle.std.specs.Prelude.{◌≡◌, ℤ, pos, IfOk, int_lt};
 ghost use Rattle.units.specs.Signs.{signed};
-ghost use Rattle.receivers.specs.Takes.{Ends, ContainsZero, Takes, answer};
+ghost use Rattle.receivers.specs.Takes.{Ends, ContainsZero, Taken, Takes, answer};
 
-use units::{Fault, Unit};
+use crate::unit_count::UnitCount;
+use units::Fault;
 
-pub trait Receiver: Sized {
+pub trait Receiver: Sized + Drop {
     // The total, in whole nanoseconds.
     ghost total: { Self → ℤ };
 
     // The lowest and highest total, and the lowest and highest count.
     ghost ends: { Self → Ends };
 
-    // Takes a count of a unit, or refuses by the first that applies: 8, a calendar unit; 9, a signed
+    // The receiver after a count, or the first refusal that applies: 8, a calendar unit; 9, a signed
     // count out of range; 10, a total out of range.
-    fn take(&mut self, magnitude: u64, negative: bool, unit: Unit) -> Result<(), Fault>
-        ensures { Takes (ends self.old) (total self.old) (signed negative magnitude) unit result (ends self.new) (total self.new) };
+    fn taken(&self, count: UnitCount, negative: bool) -> Result<Self, Fault>
+        ensures taken { Taken total (ends self.now) (total self.now) (signed negative count.magnitude) count.unit result }
+        ensures ends { IfOk result (λ r. ends r ≡ ends self.now) };
+
+    // Takes a count, or refuses it and stays as it was.
+    fn take(&mut self, count: UnitCount, negative: bool) -> Result<(), Fault>
+        ensures { Takes (ends self.old) (total self.old) (signed negative count.magnitude) count.unit result (ends self.new) (total self.new) }
+    {
+        *self = self.taken(count, negative)?;
+        Ok(())
+    }
 
     // What such a take would answer.
-    fn would_take(&self, magnitude: u64, negative: bool, unit: Unit) -> Result<(), Fault>
-        ensures { result ≡ answer (ends self.now) (total self.now) (signed negative magnitude) unit };
+    fn would_take(&self, count: UnitCount, negative: bool) -> Result<(), Fault>
+        ensures { result ≡ answer (ends self.now) (total self.now) (signed negative count.magnitude) count.unit }
+    {
+        self.taken(count, negative)?;
+        Ok(())
+    }
 
     // Whether the lowest total is below 0.
     fn takes_negative(&self) -> bool

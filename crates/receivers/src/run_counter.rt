@@ -1,35 +1,19 @@
 // A receiver that counts nanoseconds in an i64.
-ghost use Rattle.std.specs.Prelude.{◌≡◌, pos, ◌+ℤ◌, FitsSigned};
-ghost use Rattle.std.specs.Int.{w64};
-ghost use Rattle.std.specs.Option.{SomeIff};
+ghost use Rattle.std.specs.Prelude.{◌≡◌, pos};
 ghost use Rattle.units.specs.Signs.{signed};
-ghost use Rattle.receivers.specs.Keeping.{Keeps, Taken};
+ghost use Rattle.receivers.specs.Keeping.{Keeps};
 ghost use Rattle.receivers.specs.Ranges.{run_ends};
-ghost use Rattle.receivers.specs.Takes.{Takes, answer};
+ghost use Rattle.receivers.specs.Takes.{Taken};
 ghost use Rattle.std.proofs.Common.{rules};
 
 use crate::judged::*;
 use crate::receiver::Receiver;
-use units::{Fault, Unit};
+use crate::unit_count::UnitCount;
+use units::Fault;
 
 #[derive(Clone, Copy)]
 pub struct RunCounter {
     nanos: i64,
-}
-
-// The total moved by a signed size, absent exactly when the sum is no i64. The size may be no i64
-// where the sum is, so it comes in halves: each partial sum lies between the total and the last.
-fn shifted(total: i64, size: u64, negative: bool) -> Option<i64>
-    ensures { SomeIff result (FitsSigned w64 (total +ℤ signed negative size)) (total +ℤ signed negative size) }
-{
-    let half = with_sign(size / 2, negative);
-    let Some(first) = total.checked_add(half) else {
-        return None;
-    };
-    let Some(second) = first.checked_add(half) else {
-        return None;
-    };
-    second.checked_add(with_sign(size % 2, negative))
 }
 
 impl RunCounter {
@@ -47,30 +31,12 @@ impl RunCounter {
         self.nanos
     }
 
-    fn moved(self, magnitude: u64, negative: bool, unit: Unit) -> Option<RunCounter>
-        ensures { Keeps (λ c. c.nanos) run_ends self.nanos (signed negative magnitude) unit result }
+    fn moved(self, count: UnitCount, negative: bool) -> Option<RunCounter>
+        ensures { Keeps (λ c. c.nanos) run_ends self.nanos (signed negative count.magnitude) count.unit result }
     {
-        let Some(each) = unit.nanoseconds() else {
-            return None;
-        };
-        let Some(size) = magnitude.checked_mul(each) else {
-            return None;
-        };
-        let Some(nanos) = shifted(self.nanos, size, negative) else {
-            return None;
-        };
+        let size = count.magnitude.checked_mul(count.unit.nanoseconds()?)?;
+        let nanos = plus_signed(self.nanos, size, negative)?;
         Some(RunCounter { nanos })
-    }
-
-    // The counter after a take, or the first refusal that applies.
-    fn taken(self, magnitude: u64, negative: bool, unit: Unit) -> Result<RunCounter, Fault>
-        ensures { Taken (λ c. c.nanos) run_ends self.nanos (signed negative magnitude) unit result }
-    {
-        judged(
-            unit,
-            fits_i64(magnitude, negative),
-            self.moved(magnitude, negative, unit),
-        )
     }
 }
 
@@ -81,18 +47,11 @@ impl Receiver for RunCounter {
 
     ghost zero = { Prim.search rules };
 
-    fn take(&mut self, magnitude: u64, negative: bool, unit: Unit) -> Result<(), Fault>
-        ensures { Takes run_ends self.old.nanos (signed negative magnitude) unit result run_ends self.new.nanos }
+    fn taken(&self, count: UnitCount, negative: bool) -> Result<RunCounter, Fault>
+        ensures { Taken (λ c. c.nanos) run_ends self.now.nanos (signed negative count.magnitude) count.unit result }
     {
-        *self = self.taken(magnitude, negative, unit)?;
-        Ok(())
-    }
-
-    fn would_take(&self, magnitude: u64, negative: bool, unit: Unit) -> Result<(), Fault>
-        ensures { result ≡ answer run_ends self.now.nanos (signed negative magnitude) unit }
-    {
-        self.taken(magnitude, negative, unit)?;
-        Ok(())
+        let counted = fits_i64(count.magnitude, negative);
+        judged(count.unit, counted, self.moved(count, negative))
     }
 
     fn takes_negative(&self) -> bool {

@@ -5,22 +5,24 @@ ghost use Rattle.units.specs.Signs.{signed};
 ghost use Rattle.units.specs.Table.{ns};
 ghost use Rattle.units.specs.declared.unit.Unit.TheVariants.{Second};
 ghost use Rattle.durations.specs.Totals.{total as nanos_total, Exact};
-ghost use Rattle.receivers.specs.Keeping.{Keeps, Taken};
+ghost use Rattle.receivers.specs.Keeping.{Keeps};
 ghost use Rattle.receivers.specs.Ranges.{signed_ends};
-ghost use Rattle.receivers.specs.Takes.{Takes, answer};
+ghost use Rattle.receivers.specs.Takes.{Taken};
 ghost use Rattle.std.proofs.Common.{rules};
 
 use crate::judged::*;
 use crate::receiver::Receiver;
+use crate::unit_count::UnitCount;
 use durations::SignedDuration;
 use std::time::Duration;
-use units::{Fault, NANOS_PER_SEC, Unit};
+use units::{Fault, NANOS_PER_SEC};
 
-// Half of the whole seconds of a time.
+// Half of the whole seconds of a time, few enough for an i64 under either sign.
 fn half(time: Duration, negative: bool) -> SignedDuration
     ensures { nanos_total result ≡ signed negative (as_nanos time / (2 * ns Second) * ns Second) }
 {
-    SignedDuration::from_secs(with_sign(time.as_secs() / 2, negative))
+    let secs = plus_signed(0, time.as_secs() / 2, negative).unwrap();
+    SignedDuration::from_secs(secs)
 }
 
 // What is left of a time besides two such halves.
@@ -28,7 +30,8 @@ fn rest(time: Duration, negative: bool) -> SignedDuration
     ensures { nanos_total result ≡ signed negative (as_nanos time % (2 * ns Second)) }
 {
     let odd = time.as_secs() % 2 * NANOS_PER_SEC;
-    SignedDuration::from_nanos(with_sign(odd + u64::from(time.subsec_nanos()), negative))
+    let nanos = plus_signed(0, odd + u64::from(time.subsec_nanos()), negative).unwrap();
+    SignedDuration::from_nanos(nanos)
 }
 
 // The duration moved by a signed time, absent exactly when no duration has the sum. The time may
@@ -37,40 +40,15 @@ fn shifted(before: SignedDuration, time: Duration, negative: bool) -> Option<Sig
     ensures { Exact result (nanos_total before +ℤ signed negative (as_nanos time)) }
 {
     let half = half(time, negative);
-    let Some(first) = before.checked_add(half) else {
-        return None;
-    };
-    let Some(second) = first.checked_add(half) else {
-        return None;
-    };
+    let first = before.checked_add(half)?;
+    let second = first.checked_add(half)?;
     second.checked_add(rest(time, negative))
 }
 
-fn moved(
-    before: SignedDuration,
-    magnitude: u64,
-    negative: bool,
-    unit: Unit,
-) -> Option<SignedDuration>
-    ensures { Keeps nanos_total signed_ends (nanos_total before) (signed negative magnitude) unit result }
+fn moved(before: SignedDuration, count: UnitCount, negative: bool) -> Option<SignedDuration>
+    ensures { Keeps nanos_total signed_ends (nanos_total before) (signed negative count.magnitude) count.unit result }
 {
-    let Some(time) = unit.time(magnitude) else {
-        return None;
-    };
-    shifted(before, time, negative)
-}
-
-// The duration after a take, or the first refusal that applies.
-fn taken(
-    before: SignedDuration,
-    magnitude: u64,
-    negative: bool,
-    unit: Unit,
-) -> Result<SignedDuration, Fault>
-    ensures { Taken nanos_total signed_ends (nanos_total before) (signed negative magnitude) unit result }
-{
-    let kept = moved(before, magnitude, negative, unit);
-    judged(unit, fits_i64(magnitude, negative), kept)
+    shifted(before, count.unit.time(count.magnitude)?, negative)
 }
 
 impl Receiver for SignedDuration {
@@ -80,18 +58,11 @@ impl Receiver for SignedDuration {
 
     ghost zero = { Prim.search rules };
 
-    fn take(&mut self, magnitude: u64, negative: bool, unit: Unit) -> Result<(), Fault>
-        ensures { Takes signed_ends (nanos_total self.old) (signed negative magnitude) unit result signed_ends (nanos_total self.new) }
+    fn taken(&self, count: UnitCount, negative: bool) -> Result<SignedDuration, Fault>
+        ensures { Taken nanos_total signed_ends (nanos_total self.now) (signed negative count.magnitude) count.unit result }
     {
-        *self = taken(*self, magnitude, negative, unit)?;
-        Ok(())
-    }
-
-    fn would_take(&self, magnitude: u64, negative: bool, unit: Unit) -> Result<(), Fault>
-        ensures { result ≡ answer signed_ends (nanos_total self.now) (signed negative magnitude) unit }
-    {
-        taken(*self, magnitude, negative, unit)?;
-        Ok(())
+        let counted = fits_i64(count.magnitude, negative);
+        judged(count.unit, counted, moved(*self, count, negative))
     }
 
     fn takes_negative(&self) -> bool {

@@ -9,27 +9,18 @@ const TWO_TO_63: u64 = 1 << 63;
 
 // The number of the refusal, 0 for acceptance.
 fn number(answer: Result<(), Fault>) -> u8 {
-    match answer {
-        Ok(()) => 0,
-        Err(fault) => fault.number(),
-    }
+    answer.err().map_or(0, |fault| fault.number())
+}
+
+fn of(magnitude: u64, unit: Unit) -> UnitCount {
+    UnitCount { magnitude, unit }
 }
 
 // Offers counts in turn, each with the number of its answer, and asks for that answer before.
-fn offer<R: Receiver + Drop>(
-    rt: &impl Abort,
-    mut receiver: R,
-    offers: &[(u64, bool, Unit, u8)],
-) -> R {
-    for (magnitude, negative, unit, answer) in offers {
-        assert_eq!(rt;
-            number(receiver.would_take(*magnitude, *negative, *unit)),
-            *answer
-        );
-        assert_eq!(rt;
-            number(receiver.take(*magnitude, *negative, *unit)),
-            *answer
-        );
+fn offer<R: Receiver>(rt: &impl Abort, mut receiver: R, offers: &[(UnitCount, bool, u8)]) -> R {
+    for &(count, negative, answer) in offers {
+        assert_eq!(rt; number(receiver.would_take(count, negative)), answer);
+        assert_eq!(rt; number(receiver.take(count, negative)), answer);
     }
     receiver
 }
@@ -41,13 +32,13 @@ fn run_counter(rt: HostRuntime) {
         &rt,
         RunCounter::new(),
         &[
-            (TWO_TO_63, false, Nanosecond, 9),
-            (TWO_TO_63 + 1, true, Nanosecond, 9),
-            (TWO_TO_63, false, Hour, 9),
-            (u64::MAX, false, Day, 8),
-            (2_562_048, false, Hour, 10),
-            (TWO_TO_63 - 1, false, Nanosecond, 0),
-            (1, false, Nanosecond, 10),
+            (of(TWO_TO_63, Nanosecond), false, 9),
+            (of(TWO_TO_63 + 1, Nanosecond), true, 9),
+            (of(TWO_TO_63, Hour), false, 9),
+            (of(u64::MAX, Day), false, 8),
+            (of(2_562_048, Hour), false, 10),
+            (of(TWO_TO_63 - 1, Nanosecond), false, 0),
+            (of(1, Nanosecond), false, 10),
         ],
     );
     assert_eq!(rt; highest.as_nanos(), i64::MAX);
@@ -55,9 +46,9 @@ fn run_counter(rt: HostRuntime) {
         &rt,
         highest,
         &[
-            (TWO_TO_63, true, Nanosecond, 0),
-            (TWO_TO_63 - 1, true, Nanosecond, 0),
-            (1, true, Nanosecond, 10),
+            (of(TWO_TO_63, Nanosecond), true, 0),
+            (of(TWO_TO_63 - 1, Nanosecond), true, 0),
+            (of(1, Nanosecond), true, 10),
         ],
     );
     assert_eq!(rt; lowest.as_nanos(), i64::MIN);
@@ -72,15 +63,15 @@ fn signed(rt: HostRuntime) {
         &rt,
         SignedDuration::from_secs(0),
         &[
-            (TWO_TO_63, false, Nanosecond, 9),
-            (TWO_TO_63 + 1, true, Nanosecond, 9),
-            (1, false, Day, 8),
-            (TWO_TO_63, true, Nanosecond, 0),
-            (TWO_TO_63 - 1, false, Nanosecond, 0),
-            (1, false, Nanosecond, 0),
-            (TWO_TO_63 - 1, false, Second, 0),
-            (999_999_999, false, Nanosecond, 0),
-            (1, false, Nanosecond, 10),
+            (of(TWO_TO_63, Nanosecond), false, 9),
+            (of(TWO_TO_63 + 1, Nanosecond), true, 9),
+            (of(1, Day), false, 8),
+            (of(TWO_TO_63, Nanosecond), true, 0),
+            (of(TWO_TO_63 - 1, Nanosecond), false, 0),
+            (of(1, Nanosecond), false, 0),
+            (of(TWO_TO_63 - 1, Second), false, 0),
+            (of(999_999_999, Nanosecond), false, 0),
+            (of(1, Nanosecond), false, 10),
         ],
     );
     assert_eq!(rt;
@@ -91,11 +82,11 @@ fn signed(rt: HostRuntime) {
         &rt,
         highest,
         &[
-            (TWO_TO_63, true, Hour, 10),
-            (5_124_095_576_030_431, true, Hour, 0),
-            (16, true, Second, 0),
-            (999_999_998, true, Nanosecond, 0),
-            (1, true, Nanosecond, 10),
+            (of(TWO_TO_63, Hour), true, 10),
+            (of(5_124_095_576_030_431, Hour), true, 0),
+            (of(16, Second), true, 0),
+            (of(999_999_998, Nanosecond), true, 0),
+            (of(1, Nanosecond), true, 10),
         ],
     );
     assert_eq!(rt;
@@ -113,14 +104,14 @@ fn unsigned(rt: HostRuntime) {
         &rt,
         Duration::ZERO,
         &[
-            (1, true, Nanosecond, 9),
-            (0, true, Nanosecond, 0),
-            (0, true, Day, 8),
-            (5_124_095_576_030_432, false, Hour, 10),
-            (307_445_734_561_825_861, false, Minute, 10),
-            (u64::MAX, false, Second, 0),
-            (999_999_999, false, Nanosecond, 0),
-            (1, false, Nanosecond, 10),
+            (of(1, Nanosecond), true, 9),
+            (of(0, Nanosecond), true, 0),
+            (of(0, Day), true, 8),
+            (of(5_124_095_576_030_432, Hour), false, 10),
+            (of(307_445_734_561_825_861, Minute), false, 10),
+            (of(u64::MAX, Second), false, 0),
+            (of(999_999_999, Nanosecond), false, 0),
+            (of(1, Nanosecond), false, 10),
         ],
     );
     assert_eq!(rt;
@@ -129,10 +120,6 @@ fn unsigned(rt: HostRuntime) {
     );
     assert!(rt; !highest.takes_negative());
     assert_eq!(rt; highest.renewed().as_secs(), 0);
-}
-
-fn of(magnitude: u64, unit: Unit) -> UnitCount {
-    UnitCount { magnitude, unit }
 }
 
 // Counts of one sign: the sum, or the first refusal.
@@ -154,10 +141,9 @@ fn sums(rt: HostRuntime) {
         (4, true, Err(10)),
     ];
     for (count, negative, expected) in cases {
-        let answer = match take_all(&like, &counts[0..count], negative) {
-            Ok(counter) => Ok(counter.as_nanos()),
-            Err(fault) => Err(fault.number()),
-        };
+        let answer = take_all(&like, &counts[0..count], negative)
+            .map(|counter| counter.as_nanos())
+            .map_err(|fault| fault.number());
         assert_eq!(rt; answer, expected);
     }
 }

@@ -1,27 +1,46 @@
-use Rattle.std.proofs.Common.{◌≡◌, ℕ, ◌+◌, ◌*◌, ◌/◌, ◌%◌, arith, rules}
+use Rattle.std.proofs.Common.{◌≡◌, ℕ, ◌+◌, ◌*◌, ◌/◌, ◌%◌, ◌≤◌, Bool, ℤ, ◌+ℤ◌, arith, rules}
+use Rattle.std.proofs.lemmas.Int.{ints}
 use Rattle.std.specs.Duration.{as_nanos}
+use Rattle.units.specs.Signs.{signed}
 use Rattle.units.specs.declared.unit.Unit.TheVariants.{Second}
 use Rattle.units.specs.Table.{ns}
-use Rattle.durations.specs.Totals.{total}
+use Rattle.durations.specs.Totals.{total, Fits}
 use Rattle.durations.proofs.Ranges.{fits}
-use Rattle.receivers.proofs.Halves.{first_in, second_in, whole}
-use Rattle.receivers.proofs.Moving.{held_from, fits_from}
 use Rattle.receivers.proofs.signed.shifted.Goals as goal
 
-parts : (n : ℕ) → n / (2 * ns Second) * ns Second + n / (2 * ns Second) * ns Second + n % (2 * ns Second) ≡ n
+-- A part of the way ends between the first total and the last.
+part_way : (t : ℤ) (b : Bool) (k n : ℕ) → k ≤ n → Fits t → Fits (t +ℤ signed b n) → Fits (t +ℤ signed b k)
+part_way t b k n h i j = grind (arith, ints)
+
+further : (t : ℤ) (b : Bool) (m n : ℕ) → t +ℤ signed b m +ℤ signed b n ≡ t +ℤ signed b (m + n)
+further t b m n = grind (arith, ints)
+
+-- the nanoseconds of half of the whole seconds
+abbrev half : ℕ → ℕ
+half n = n / (2 * ns Second) * ns Second
+
+parts : (n : ℕ) → half n + half n + n % (2 * ns Second) ≡ n
 parts n = omega arith
 
-pub returns-in_default : goal.returns-in_default
-returns-in_default c = λ fit.
+pub returns-in_err-first : goal.returns-in_err-first
+returns-in_err-first c =
     let d = c.args.before in
-    c.in_default.ensures (fits_from _ (first_in _ _ (total d) (held_from _ (fits d.secs d.nanos (search rules) d.small)) _ _ _ (parts (as_nanos c.args.time)) c.args.negative (total c.half-half.result) c.half-half.ensures (held_from _ fit)))
+    let n = as_nanos c.args.time in
+    rw c.from_residual.ensures (λ fit. c.in_err-first.ensures (rw c.half-half.ensures (part_way (total d) c.args.negative (half n) n (omega arith) (fits d.secs d.nanos (search rules) d.small) fit)))
 
-pub returns-in_default-checked_add : goal.returns-in_default-checked_add
-returns-in_default-checked_add c = λ fit.
+pub returns-in_err-second : goal.returns-in_err-second
+returns-in_err-second c =
     let d = c.args.before in
-    c.in_default-checked_add.ensures (fits_from _ (second_in _ _ (total d) (held_from _ (fits d.secs d.nanos (search rules) d.small)) _ _ _ (parts (as_nanos c.args.time)) c.args.negative (total c.half-half.result) (total c.in-Some.first) c.half-half.ensures c.in-Some.ensures.1 (held_from _ fit)))
+    let b = c.args.negative in
+    let n = as_nanos c.args.time in
+    let h = half n in
+    rw c.from_residual-in_err-second.ensures (λ fit. c.in_err-second.ensures (rw (c.in_ok-first.ensures.1, c.half-half.ensures, further (total d) b h h) (part_way (total d) b (h + h) n (omega arith) (fits d.secs d.nanos (search rules) d.small) fit)))
 
 pub returns : goal.returns
 returns c =
-    rw (whole c.args.negative (total c.args.before) (total c.half-half.result) (total c.rest.result) (total c.in-Some.first) (total c.in-Some-checked_add.second) _ _ (as_nanos c.args.time) (parts (as_nanos c.args.time)) c.half-half.ensures c.rest.ensures c.in-Some.ensures.1 c.in-Some-checked_add.ensures.1)
-    at c.checked_add-3.ensures
+    let t = total c.args.before in
+    let b = c.args.negative in
+    let n = as_nanos c.args.time in
+    let h = half n in
+    let sum : total c.in_ok-second.second +ℤ total c.rest.result ≡ t +ℤ signed b n = rw (c.in_ok-second.ensures.1, c.in_ok-first.ensures.1, c.half-half.ensures, c.rest.ensures, further t b h h, further t b (h + h) (n % (2 * ns Second)), parts n) in
+    rw sum at c.checked_add-3.ensures
