@@ -4,22 +4,13 @@ use Rattle.std.proofs.lemmas.Slice.Eq.{slice_eq-Decides}
 use Rattle.std.proofs.lemmas.Bool.Decides.{Decides-eqb}
 use Rattle.std.proofs.lemmas.Bool.{and_parts}
 use Rattle.units.specs.declared.sign.Sign.{Sign}
-use Rattle.units.specs.declared.sign.Sign.TheVariants.{Negative, Zero, Positive}
 use Rattle.spans.specs.Bits.{bits_of}
 use Rattle.spans.specs.Magnitudes.{side}
 use Rattle.spans.specs.Spans.{shown, Sameness}
 use Rattle.spans.specs.declared.span.Span.{Span}
 
 same_side : (s t : Sign) → side s ≡ side t → s ≡ t
-same_side Negative Negative e = refl
-same_side Zero Zero e = refl
-same_side Positive Positive e = refl
-same_side Negative Zero e = absurd (omega arith)
-same_side Negative Positive e = absurd (omega arith)
-same_side Zero Negative e = absurd (omega arith)
-same_side Zero Positive e = absurd (omega arith)
-same_side Positive Negative e = absurd (omega arith)
-same_side Positive Zero e = absurd (omega arith)
+same_side s t e = grind arith
 
 -- The magnitudes tell the bits.
 alike : (a b : Span) → a.magnitudes ≡ b.magnitudes → a.sign ≡ b.sign → shown a ≡ shown b

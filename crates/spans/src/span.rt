@@ -12,7 +12,7 @@ ghost use Rattle.spans.specs.Magnitudes.{all_zero, is_zero};
 use crate::unit_set::UnitSet;
 use units::Sign;
 
-#[derive(Clone, Copy)]
+#[derive(Clone, Copy, Debug)]
 pub struct Span {
     magnitudes: [u64; 10],
     sign: Sign,

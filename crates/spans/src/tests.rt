@@ -19,18 +19,14 @@ fn with(span: Span, unit: Unit, value: i64) -> Result<Span, Fault> {
 
 // The magnitude that one value leaves in a span, or the number of the refusal.
 fn tried(unit: Unit, value: i64) -> Result<u64, u8> {
-    match with(Span::new(), unit, value) {
-        Ok(span) => Ok(span.magnitude(unit)),
-        Err(fault) => Err(fault.number()),
-    }
+    with(Span::new(), unit, value)
+        .map(|span| span.magnitude(unit))
+        .map_err(|fault| fault.number())
 }
 
 #[test]
-fn limits(rt: HostRuntime) -> Result<(), Fail> {
-    for code in 0..10 {
-        let Some(unit) = Unit::from_code(code) else {
-            return Err(Fail::new("no unit"));
-        };
+fn limits(rt: HostRuntime) {
+    for unit in Unit::ALL {
         let limit = unit.span_limit();
         let value = limit as i64;
         assert_eq!(rt; tried(unit, value), Ok(limit));
@@ -40,48 +36,35 @@ fn limits(rt: HostRuntime) -> Result<(), Fail> {
         assert_eq!(rt; tried(unit, -value - 1), Err(19));
         assert_eq!(rt; tried(unit, i64::MIN), Err(19));
     }
-    Ok(())
 }
 
-fn of(values: [(Unit, i64); 2]) -> Result<Span, Fail> {
+fn of(values: [(Unit, i64); 2]) -> Result<Span, Fault> {
     let mut span = Span::new();
     for (unit, value) in values {
-        span = match with(span, unit, value) {
-            Ok(span) => span,
-            Err(_) => return Err(Fail::new("refused")),
-        };
+        span = with(span, unit, value)?;
     }
     Ok(span)
-}
-
-// Below, at or above 0.
-fn side(sign: Sign) -> i8 {
-    match sign {
-        Sign::Negative => -1,
-        Sign::Zero => 0,
-        Sign::Positive => 1,
-    }
 }
 
 #[test]
 fn signs(rt: HostRuntime) -> Result<(), Fail> {
     // two values set one after the other, and the sign, the years and the months then
     let cases = [
-        ([(Unit::Year, -5), (Unit::Year, 3)], (-1, 3, 0)),
-        ([(Unit::Year, 5), (Unit::Month, -1)], (-1, 5, 1)),
-        ([(Unit::Year, -5), (Unit::Month, 2)], (-1, 5, 2)),
-        ([(Unit::Year, -5), (Unit::Year, 0)], (0, 0, 0)),
-        ([(Unit::Year, 0), (Unit::Month, 7)], (1, 0, 7)),
-        ([(Unit::Year, 5), (Unit::Month, 0)], (1, 5, 0)),
+        ([(Unit::Year, -5), (Unit::Year, 3)], (Sign::Negative, 3, 0)),
+        ([(Unit::Year, 5), (Unit::Month, -1)], (Sign::Negative, 5, 1)),
+        ([(Unit::Year, -5), (Unit::Month, 2)], (Sign::Negative, 5, 2)),
+        ([(Unit::Year, -5), (Unit::Year, 0)], (Sign::Zero, 0, 0)),
+        ([(Unit::Year, 0), (Unit::Month, 7)], (Sign::Positive, 0, 7)),
+        ([(Unit::Year, 5), (Unit::Month, 0)], (Sign::Positive, 5, 0)),
     ];
     for (values, (sign, years, months)) in cases {
         let span = of(values)?;
-        assert_eq!(rt; side(span.sign()), sign);
+        assert_eq!(rt; span.sign(), sign);
         assert_eq!(rt; span.magnitude(Unit::Year), years);
         assert_eq!(rt; span.magnitude(Unit::Month), months);
         assert_eq!(rt; span.units().contains(Unit::Year), years != 0);
         assert_eq!(rt; span.units().contains(Unit::Month), months != 0);
-        assert_eq!(rt; span.units().is_empty(), sign == 0);
+        assert_eq!(rt; span.units().is_empty(), sign == Sign::Zero);
     }
     Ok(())
 }

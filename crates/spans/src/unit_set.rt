@@ -7,7 +7,7 @@ ghost use Rattle.spans.specs.Bits.{bit, one_if, with_bit};
 use units::Unit;
 
 // Bit k stands for the unit of code k.
-#[derive(Clone, Copy)]
+#[derive(Clone, Copy, PartialEq, Eq, Debug)]
 pub struct UnitSet {
     bits: u16,
 }
@@ -48,6 +48,7 @@ impl UnitSet {
     }
 
     // The set with the unit in it or not, and every other unit as before.
+    #[tactic(auto, using(crate::proofs::Bitwise::bit_here, crate::proofs::Bitwise::bit_elsewhere, crate::proofs::Units::apart))]
     pub fn set(self, unit: Unit, present: bool) -> UnitSet
         ensures value { result.bits ≡ with_bit self.bits (code unit) present }
         ensures here { bit result.bits (code unit) ≡ one_if present }

@@ -1,6 +1,6 @@
 // The time of a span's clock units, exact in nanoseconds. It always fits: the limits are far below
 // what a duration holds.
-ghost use Rattle.std.specs.Prelude.{◌≡◌, ◌*◌, false, pos, neg_ℤ, ◌≤ℤ◌, slice_index};
+ghost use Rattle.std.specs.Prelude.{◌≡◌, ◌*◌, false, slice_index};
 ghost use Rattle.std.specs.Duration.{as_nanos, FitsDuration};
 ghost use Rattle.units.specs.Table.{ns, code, calendar};
 ghost use Rattle.units.specs.Times.{time_from};
@@ -12,29 +12,6 @@ use durations::SignedDuration;
 use std::time::Duration;
 use units::{Sign, Unit};
 
-// A time as a signed duration. Up to half of what a Duration holds, its seconds are an i64.
-fn positive(time: Duration) -> SignedDuration
-    requires { FitsDuration (as_nanos time * 2) }
-    ensures { total result ≡ pos (as_nanos time) }
-{
-    let secs = SignedDuration::from_secs(time.as_secs() as i64);
-    let nanos = SignedDuration::from_nanos(time.subsec_nanos() as i64);
-    let Some(sum) = secs.checked_add(nanos) else {
-        unreachable()
-    };
-    sum
-}
-
-fn negated(time: SignedDuration) -> SignedDuration
-    requires { pos 0 ≤ℤ total time }
-    ensures { total result ≡ neg_ℤ (total time) }
-{
-    let Some(time) = time.checked_neg() else {
-        unreachable()
-    };
-    time
-}
-
 impl Span {
     // The time of one clock unit, less than a twelfth of what a Duration holds.
     fn time(&self, unit: Unit) -> Duration
@@ -42,10 +19,7 @@ impl Span {
         ensures value { as_nanos result ≡ slice_index self.now.magnitudes (code unit) * ns unit }
         ensures short { FitsDuration (as_nanos result * 12) }
     {
-        let Some(time) = unit.time(self.magnitude(unit)) else {
-            unreachable()
-        };
-        time
+        unit.time(self.magnitude(unit)).unwrap()
     }
 
     // The time of all clock units, without the sign: less than half of what a Duration holds.
@@ -65,9 +39,9 @@ impl Span {
     pub fn clock_total(&self) -> SignedDuration
         ensures { total result ≡ clock_total self.now }
     {
-        let time = positive(self.clock_time());
+        let time = SignedDuration::try_from(self.clock_time()).unwrap();
         match self.sign {
-            Sign::Negative => negated(time),
+            Sign::Negative => time.checked_neg().unwrap(),
             Sign::Zero | Sign::Positive => time,
         }
     }

@@ -25,6 +25,7 @@ impl Span {
     }
 
     // The units whose magnitudes are not 0.
+    #[tactic(auto, using(crate::proofs::Units::told))]
     pub fn units(&self) -> UnitSet
         ensures value { result ≡ self.now.units }
         ensures told { Told self.now }

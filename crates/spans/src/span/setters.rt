@@ -1,15 +1,14 @@
 // The setters of a span: each takes a span and a value at one unit, and gives the span with it.
-ghost use Rattle.std.specs.Prelude.{◌≡◌, ◌<◌, ◌≤◌, not, MatchResult, ◌==◌, unsigned_abs};
+ghost use Rattle.std.specs.Prelude.{◌≡◌, ◌<◌, ◌≤◌, MatchResult, unsigned_abs};
 ghost use Rattle.std.specs.Result.{result_map_both};
-ghost use Rattle.units.specs.Table.{code, span_limit};
+ghost use Rattle.units.specs.Table.{span_limit};
 ghost use Rattle.units.specs.declared.fault.Fault.TheVariants.{SpanLimitPassed};
 ghost use Rattle.units.specs.declared.unit.Unit.TheVariants.{Nanosecond, Microsecond, Millisecond, Second, Minute, Hour, Day, Week, Month, Year};
-ghost use Rattle.spans.specs.Bits.{with_bit};
 ghost use Rattle.spans.specs.Magnitudes.{sign_after};
 ghost use Rattle.spans.specs.Spans.{shown, with_value};
 
 use super::Span;
-use crate::unit_set::{UnitSet, place};
+use crate::unit_set::place;
 use units::{Fault, Sign, Unit};
 
 // The magnitude of a value, refused past the unit's limit.
@@ -21,13 +20,6 @@ fn limited(unit: Unit, value: i64) -> Result<u64, Fault>
         return Err(Fault::SpanLimitPassed);
     }
     Ok(magnitude)
-}
-
-// A unit is in the set exactly while its magnitude is not 0.
-fn units_after(units: UnitSet, unit: Unit, magnitude: u64) -> UnitSet
-    ensures { result.bits ≡ with_bit units.bits (code unit) (not (magnitude == 0)) }
-{
-    units.set(unit, magnitude != 0)
 }
 
 // A value below 0 turns the whole span Negative. Any other keeps the sign, except from or to a zero span.
@@ -53,7 +45,7 @@ impl Span {
         let magnitude = limited(unit, value)?;
         let mut magnitudes = self.magnitudes;
         magnitudes[place(unit)] = magnitude;
-        let units = units_after(self.units, unit, magnitude);
+        let units = self.units.set(unit, magnitude != 0);
         let sign = sign_after(self.sign, units.is_empty(), value);
         Ok(Span {
             magnitudes,

@@ -20,7 +20,7 @@ invariant_of-result c =
     let inside : k < length ms = omega arith in
     let ok = c.in_ok-magnitude.ensures in
     let size : v ≡ nat_abs z = simp to_z-of_z at ok.0 in
-    let told = c.units_after-units.ensures ∙ ap₂ (λ n j. with_bit n j (not (eqb v 0))) s.told (sym c.place.ensures.value) ∙ bits_of_set ms k v inside in
+    let told = c.set-units.ensures.value ∙ ap₂ (λ n j. with_bit n j (not (eqb v 0))) s.told (sym c.place.ensures.value) ∙ bits_of_set ms k v inside in
     let none = c.is_empty.ensures ∙ ap (λ n. eqb n 0) told ∙ all_zero_bits (set ms k v) in
     let sign : c.sign_after-sign.result ≡ sign_after s.sign (all_zero (set ms k v)) z = rw (← none) (simp to_z-of_z at c.sign_after-sign.ensures) in
     record {
