@@ -4,16 +4,18 @@
 --     Chain ls     each unit is longer than 0 and divides every larger one
 --     drain ls     the time over the limits, were there no parts of units
 --     room ls      the time that the limits have room for
-use Rattle.std.proofs.Common.{◌≡◌, ℕ, zero, suc, ◌+◌, ◌-◌, ◌*◌, ◌/◌, ◌<◌, ◌≤◌, List, [], ◌∷◌, map, length, get_or, drop, refl, ap, ◌∙◌, inl, inr, mul-le-mul_right, mul_assoc, mul_comm, add-mul, le-div_iff_mul-le, div-mul-le_self, mul-div_cancel, arith}
+use Rattle.std.proofs.Common.{◌≡◌, ℕ, zero, suc, ◌+◌, ◌-◌, ◌*◌, ◌/◌, ◌^◌, ◌<◌, ◌≤◌, List, [], ◌∷◌, ◌++◌, map, length, get_or, drop, set, sym, refl, ap, ◌∙◌, append_assoc, length-drop, inl, inr, mul-le-mul_right, mul_assoc, mul_comm, add-mul, le-div_iff_mul-le, div-mul-le_self, mul-div_cancel, arith}
 use native.Mathlib.Nat.{mul-add-div_right, mul-sub}
 use Rattle.std.specs.List.{AllByRecursion}
+use Rattle.std.specs.Duration.{FitsDuration}
 use Rattle.std.proofs.lemmas.Bool.{cases_lt}
+use Rattle.std.proofs.lemmas.List.{drop-set, length-map, map-append}
+use Rattle.std.proofs.Math.Seq.{drop-append_seam}
+use Rattle.units.specs.Times.{time_at}
 use Rattle.spreading.specs.Spreading.{Level, stays, left, kept}
 
-unfoldable pub time : List Level → List ℕ → ℕ
-time [] ks = 0
-time (l ∷ ls) [] = 0
-time (l ∷ ls) (k ∷ ks) = k * l.nanos + time ls ks
+abbrev pub time : List Level → List ℕ → ℕ
+time ls ks = time_at (map (λ l. l.nanos) ls) ks
 
 unfoldable pub held : List Level → ℕ
 held [] = 0
@@ -25,12 +27,12 @@ stays_in l came =
     omega (arith, div-mul-le_self (l.written + came) l.nanos, mul-le-mul_right {m = stays l came} {n = (l.written + came) / l.nanos} l.nanos (omega arith))
 
 pub balanced : (ls : List Level) → time ls (kept ls) + left ls ≡ held ls
-unfolding kept time left held
+unfolding kept left held
 balanced [] = refl
 balanced (l ∷ ls) = omega (arith, stays_in l (left ls), balanced ls)
 
 pub lower : (ls : List Level) (k : ℕ) → time (drop k ls) (drop k (kept ls)) ≤ held (drop k ls)
-unfolding kept time left held
+unfolding kept left held
 lower ls zero = omega (arith, balanced ls)
 lower [] (suc k) = omega arith
 lower (l ∷ ls) (suc k) = lower ls k
@@ -50,7 +52,6 @@ Chain [] = Unit {0}
 Chain (l ∷ ls) = (0 < l.nanos) × AllByRecursion (λ m. Multiple l.nanos m.nanos) ls × Chain ls
 
 time_multiple : (n : ℕ) (ls : List Level) (ks : List ℕ) → AllByRecursion (λ m. Multiple n m.nanos) ls → Multiple n (time ls ks)
-unfolding time
 time_multiple n [] ks a = (0, omega arith)
 time_multiple n (l ∷ ls) [] a = (0, omega arith)
 time_multiple n (l ∷ ls) (k ∷ ks) a =
@@ -69,7 +70,7 @@ Within ls ks = (j : ℕ) → j < length ls → get_or ks j 0 ≤ get_or (map (λ
 
 -- Of all counts within the limits that raise no time, those that stay last longest.
 most : (ls : List Level) (ks : List ℕ) → Chain ls → Within ls ks → ((k : ℕ) → time (drop k ls) (drop k ks) ≤ held (drop k ls)) → time ls ks ≤ time ls (kept ls)
-unfolding kept time left held
+unfolding kept left held
 most [] ks c w r = omega arith
 most (l ∷ ls) [] c w r = omega arith
 most (l ∷ ls) (k ∷ ks) c w r =
@@ -158,15 +159,41 @@ drain_left (l ∷ ls) c w =
 pub part : (ls ms : List Level) → Chain ls → Whole ls → Under ls ms → left ms ≡ 0 → left ls ≡ 0
 part ls ms c w u z = omega (arith, drain_left ls c w, drain_under ls ms u, drain_below ms)
 
+-- ---- from the last level to the first
+-- One turn, at the level i below j: what it keeps and what it passes on are as defined.
+pub turn : (ls : List Level) (l : Level) (xs : List ℕ) (i j came x : ℕ) → drop i ls ≡ l ∷ drop j ls → i + 1 ≡ j → j ≤ length xs → drop j xs ≡ kept (drop j ls) → came ≡ left (drop j ls) → x ≡ stays l came → (drop i (set xs i x) ≡ kept (drop i ls)) × (l.written + came - x * l.nanos ≡ left (drop i ls))
+unfolding kept left
+turn ls l xs i j came x at next long k c stay =
+    let a = drop-set xs i x (omega arith) in
+    let b = ap kept at in
+    let d = ap left at in
+    (cc, cc)
+
+-- what is still to go, seen as levels, is the front of them: the last of it is the next level
+pub next_level : {A : Type 0} (v : A → Level) (ts : List A) (t : A) (ls : List Level) → map v (ts ++ t ∷ []) ++ drop (length (ts ++ t ∷ [])) ls ≡ ls → (drop (length ts) ls ≡ v t ∷ drop (length (ts ++ t ∷ [])) ls) × (map v ts ++ drop (length ts) ls ≡ ls)
+next_level v ts t ls e =
+    let ms : List Level = drop (length (ts ++ t ∷ [])) ls in
+    let whole : map v ts ++ v t ∷ ms ≡ ls = sym (append_assoc (map v ts) (v t ∷ []) ms) ∙ ap (λ ks. ks ++ ms) (sym (map-append v ts (t ∷ []))) ∙ e in
+    let here : drop (length ts) ls ≡ v t ∷ ms = ap (drop (length ts)) (sym whole) ∙ ap (λ n. drop n (map v ts ++ v t ∷ ms)) (sym (length-map ts v)) ∙ drop-append_seam (map v ts) (v t ∷ ms) in
+    (here, ap (λ ks. map v ts ++ ks) here ∙ whole)
+
 -- ---- more time than any Duration
 unfoldable pub room : List Level → ℕ
 room [] = 0
 room (l ∷ ls) = l.limit * l.nanos + room ls
 
 -- no level takes more than its limit away, so the time at any of them is left over but for the room
-pub past : (ls : List Level) (i : ℕ) (d : Level) → i < length ls → (get_or ls i d).written + left (drop (suc i) ls) ≤ left ls + room ls
+past : (ls : List Level) (i : ℕ) (l : Level) (ms : List Level) → drop i ls ≡ l ∷ ms → l.written + left ms ≤ left ls + room ls
 unfolding left room
-past [] i d h = absurd (omega arith)
-past (l ∷ ls) zero d h = omega (arith, mul-le-mul_right {m = stays l (left ls)} {n = l.limit} l.nanos (omega arith))
-past (l ∷ ls) (suc i) d h =
-    omega (arith, past ls i d (omega arith), mul-le-mul_right {m = stays l (left ls)} {n = l.limit} l.nanos (omega arith))
+past [] i l ms at = absurd (omega (arith, length-drop {A = Level} i [], ap length at))
+past (k ∷ ks) zero l ms at =
+    let first : k ≡ l = cc in
+    let others : ks ≡ ms = cc in
+    let time : l.written + left ms ≡ k.written + left ks = cc in
+    omega (arith, mul-le-mul_right {m = stays k (left ks)} {n = k.limit} k.nanos (omega arith))
+past (k ∷ ks) (suc i) l ms at =
+    omega (arith, past ks i l ms at, mul-le-mul_right {m = stays k (left ks)} {n = k.limit} k.nanos (omega arith))
+
+-- Where the time at a level is longer than any Duration, and the limits have room for less, some is left over.
+pub too_long : (ls : List Level) (i : ℕ) (l : Level) (ms : List Level) (came : ℕ) → room ls < 2 ^ 64 * 1_000_000_000 → drop i ls ≡ l ∷ ms → came ≡ left ms → (FitsDuration (l.written + came) → ⊥) → left ls ≡ 0 → ⊥
+too_long ls i l ms came little at c long none = omega (arith, past ls i l ms at)

@@ -1,23 +1,18 @@
 -- The laws of spreading at the six clock units. Assumes nothing.
 use Rattle.std.proofs.Common.{◌≡◌, ℕ, zero, suc, ◌+◌, ◌*◌, ◌<◌, ◌≤◌, Bool, true, false, cond, not, ◌&&◌, eqb, leb, List, [], ◌∷◌, map, length, get_or, drop, Option, sym, refl, ap, ◌∙◌, inl, inr, arith}
-use Rattle.std.proofs.lemmas.List.{drop_more, drop_all, drop-map, get_or_past}
+use Rattle.std.specs.List.{AllByRecursion}
+use Rattle.std.proofs.lemmas.List.{drop_more, drop_all, drop-map, get_or-map, get_or_past}
 use Rattle.std.proofs.lemmas.Bool.{cases_lt, cases_eq, eq-eqb, ne_eqb}
 use Rattle.std.proofs.lemmas.Bool.Decides.{nat_tests}
 use Rattle.units.specs.declared.unit.Unit.{Unit as TimeUnit}
+use Rattle.units.specs.declared.unit.Unit.TheVariants.{Hour}
 use Rattle.units.specs.Table.{code, ns}
 use Rattle.units.specs.Times.{clock_units, time_at, time_from}
 use Rattle.units.proofs.Tables.{table_rule}
 use Rattle.spreading.specs.Laws.{fraction_from, Serves, counts_from, Spreads, Best}
 use Rattle.spreading.specs.Spreading.{Level, left, kept, level, levels, spread}
-use Rattle.spreading.proofs.Clock.{unit_at, code_at, six, drop_level, chain}
+use Rattle.spreading.proofs.Clock.{unit_at, code_at, six, at_level, drop_level, chain}
 use Rattle.spreading.proofs.Descending.{time, held, balanced, lower, within, best, part, Multiple, Under, Whole}
-
--- the time of counts, by the nanoseconds of the levels alone
-time_is : (ls : List Level) (xs : List ℕ) → time ls xs ≡ time_at (map (λ l. l.nanos) ls) xs
-unfolding time
-time_is [] xs = refl
-time_is (l ∷ ls) [] = refl
-time_is (l ∷ ls) (x ∷ xs) = ap (λ n. x * l.nanos + n) (time_is ls xs)
 
 -- a fraction counts at k if it stands there, or counts at the next larger unit
 counts_on : (k c f : ℕ) → k < 6 → cond (eqb k c) f 0 + cond (leb (k + 1) c && not (not (leb c 5))) f 0 ≡ cond (leb k c && not (not (leb c 5))) f 0
@@ -51,17 +46,12 @@ module _ (ms ks : List ℕ) (f : ℕ) (s : TimeUnit) where
   lengths = refl
 
   time_of : (k : ℕ) (xs : List ℕ) → time (drop k ls) (drop k xs) ≡ time_from k xs
-  time_of k xs = time_is (drop k ls) (drop k xs) ∙ ap (λ ns. time_at ns (drop k xs)) (sym (drop-map (λ l. l.nanos) k ls) ∙ ap (drop k) lengths)
+  time_of k xs = ap (λ ns. time_at ns (drop k xs)) (sym (drop-map (λ l. l.nanos) k ls) ∙ ap (drop k) lengths)
 
   limit_at : (k : ℕ) → k < 6 → get_or (map (λ l. l.limit) ls) k 0 ≡ get_or ms k 0
-  unfolding levels
-  limit_at zero h = refl
-  limit_at (suc zero) h = refl
-  limit_at (suc (suc zero)) h = refl
-  limit_at (suc (suc (suc zero))) h = refl
-  limit_at (suc (suc (suc (suc zero)))) h = refl
-  limit_at (suc (suc (suc (suc (suc zero))))) h = refl
-  limit_at (suc (suc (suc (suc (suc (suc k)))))) h = absurd (omega arith)
+  limit_at k h =
+      let d : Level = level ms ks f s Hour in
+      get_or-map (λ l. l.limit) ls k d 0 (rw (six ms ks f s) h) ∙ ap (λ l. l.limit) (at_level ms ks f s k d h) ∙ ap (λ c. get_or ms c 0) (code_at k h)
 
   limit_above : (k : ℕ) → 6 ≤ k → get_or (map (λ l. l.limit) ls) k 0 ≡ 0
   unfolding levels
@@ -74,45 +64,34 @@ module _ (ms ks : List ℕ) (f : ℕ) (s : TimeUnit) where
   ]
 
   -- less is written without the smaller units and the fraction, and only whole units
+  under_at : (k : ℕ) (us : List TimeUnit) → AllByRecursion (λ u. get_or (counts_from k ks) (code u) 0 ≡ cond (leb k (code u)) (get_or ks (code u) 0) 0) us → Under (map (level ms (counts_from k ks) 0 s) us) (map (level ms ks f s) us)
+  under_at k [] a = tt
+  under_at k (u ∷ us) a =
+      (rw a.0 (less (leb k (code u)) (eqb (code u) (code s)) (get_or ks (code u) 0) (ns u) f), refl, under_at k us a.1)
+
   under : (k : ℕ) → Under (levels ms (counts_from k ks) 0 s) ls
   unfolding levels
-  under k = (
-    less (leb k 0) (eqb 0 (code s)) (get_or ks 0 0) 1 f,
-    refl,
-    (
-      less (leb k 1) (eqb 1 (code s)) (get_or ks 1 0) 1_000 f,
-      refl,
-      (
-        less (leb k 2) (eqb 2 (code s)) (get_or ks 2 0) 1_000_000 f,
-        refl,
-        (
-          less (leb k 3) (eqb 3 (code s)) (get_or ks 3 0) 1_000_000_000 f,
-          refl,
-          (
-            less (leb k 4) (eqb 4 (code s)) (get_or ks 4 0) 60_000_000_000 f,
-            refl,
-            (less (leb k 5) (eqb 5 (code s)) (get_or ks 5 0) 3_600_000_000_000 f, refl, tt),
-          ),
-        ),
-      ),
-    ),
-  )
+  under k = under_at k clock_units (refl, (refl, (refl, (refl, (refl, (refl, tt))))))
+
+  whole_at : (xs : List ℕ) (us : List TimeUnit) → Whole (map (level ms xs 0 s) us)
+  whole_at xs [] = tt
+  whole_at xs (u ∷ us) = (no_part (eqb (code u) (code s)) (get_or xs (code u) 0) (ns u), whole_at xs us)
 
   whole : (xs : List ℕ) → Whole (levels ms xs 0 s)
   unfolding levels
-  whole xs = (no_part (eqb 0 (code s)) (get_or xs 0 0) 1, (no_part (eqb 1 (code s)) (get_or xs 1 0) 1_000, (no_part (eqb 2 (code s)) (get_or xs 2 0) 1_000_000, (no_part (eqb 3 (code s)) (get_or xs 3 0) 1_000_000_000, (no_part (eqb 4 (code s)) (get_or xs 4 0) 60_000_000_000, (no_part (eqb 5 (code s)) (get_or xs 5 0) 3_600_000_000_000, tt))))))
+  whole xs = whole_at xs clock_units
 
   written_at : (k : ℕ) → k < 6 → (level ms ks f s (unit_at k)).written ≡ get_or ks k 0 * ns (unit_at k) + cond (eqb k (code s)) f 0
   written_at k h = ap (λ c. get_or ks c 0 * ns (unit_at k) + cond (eqb c (code s)) f 0) (code_at k h)
 
   module _ (long : length ks ≡ 6) where
     held_above : (k : ℕ) → 6 ≤ k → held (drop k ls) ≡ time (drop k ls) (drop k ks) + fraction_from k s f
-    unfolding held time
+    unfolding held
     held_above k h = rw (drop_all k ls (rw (six ms ks f s) h)) (omega (arith, fraction_above k s f h))
 
     -- by a number d of units that reaches Hour from k
     held_by : (d k : ℕ) → 6 ≤ k + d → held (drop k ls) ≡ time (drop k ls) (drop k ks) + fraction_from k s f
-    unfolding held time
+    unfolding held
     held_by zero k e = held_above k (omega arith)
     held_by (suc d) k e = elim (cases_lt k 6) [
       | inl h ↦

@@ -1,3 +1,4 @@
 pub mod Clock
 pub mod Descending
 pub mod Lawful
+pub mod Mapping

@@ -2,6 +2,7 @@
 // more than its limit.
 #![tactic(auto)]
 
+mod level;
 mod limits;
 mod spreading;
 #[cfg(test)]

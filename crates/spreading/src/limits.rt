@@ -15,12 +15,11 @@ pub struct ClockLimits {
 fn lawful(limits: &[u64; 6]) -> bool
     ensures { Decides result (UpTo limits.now clock_limits) }
 {
-    for code in 0..6 {
-        if limits[code] > Unit::CLOCK[code].span_limit() {
-            return false;
-        }
-    }
-    true
+    let table = ClockLimits::table();
+    limits
+        .iter()
+        .zip(&table.limits)
+        .all(|(limit, most)| limit <= most)
 }
 
 impl ClockLimits {
@@ -29,14 +28,7 @@ impl ClockLimits {
         ensures { result.limits ≡ clock_limits }
     {
         ClockLimits {
-            limits: [
-                Unit::Nanosecond.span_limit(),
-                Unit::Microsecond.span_limit(),
-                Unit::Millisecond.span_limit(),
-                Unit::Second.span_limit(),
-                Unit::Minute.span_limit(),
-                Unit::Hour.span_limit(),
-            ],
+            limits: Unit::CLOCK.map(|unit| unit.span_limit()),
         }
     }
 
@@ -45,9 +37,10 @@ impl ClockLimits {
         ensures { MatchOption result (UpTo limits clock_limits → ⊥) (λ l. UpTo limits clock_limits × (l.limits ≡ limits)) }
     {
         if lawful(&limits) {
-            return Some(ClockLimits { limits });
+            Some(ClockLimits { limits })
+        } else {
+            None
         }
-        None
     }
 
     // The limit of the clock unit of a code.

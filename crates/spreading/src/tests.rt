@@ -62,12 +62,11 @@ fn largest_alone(rt: HostRuntime) {
         42_227_550_707,
         879_100_127,
     ];
-    for (code, count) in largest.iter().enumerate() {
-        assert!(rt; code < 6);
+    for (place, count) in largest.iter().enumerate() {
         let mut counts = [0; 6];
-        counts[code] = *count;
+        counts[place] = *count;
         assert!(rt; spread(&counts, 0, Hour, &limits).is_some());
-        counts[code] = count + 1;
+        counts[place] += 1;
         assert!(rt; spread(&counts, 0, Hour, &limits).is_none());
     }
 }
@@ -84,19 +83,15 @@ fn limits(rt: HostRuntime) -> Result<(), Fail> {
         175_307_616,
     ];
     assert!(rt; ClockLimits::new(table).is_some());
-    for code in 0..6 {
+    for (place, most) in table.iter().enumerate() {
         let mut above = table;
-        above[code] += 1;
+        above[place] = most + 1;
         assert!(rt; ClockLimits::new(above).is_none());
     }
-    let Some(none) = ClockLimits::new([0; 6]) else {
-        return Err(Fail::new("limits of 0 are refused"));
-    };
+    let none = ClockLimits::new([0; 6]).ok_or("limits of 0 are refused")?;
     assert_eq!(rt; spread(&[0; 6], 0, Hour, &none), Some([0; 6]));
     assert_eq!(rt; spread(&[1, 0, 0, 0, 0, 0], 0, Hour, &none), None);
-    let Some(few) = ClockLimits::new([0, 0, 0, 0, 60, 999]) else {
-        return Err(Fail::new("fewer hours are refused"));
-    };
+    let few = ClockLimits::new([0, 0, 0, 0, 60, 999]).ok_or("fewer hours are refused")?;
     assert_eq!(rt;
         spread(&[0, 0, 0, 0, 0, 1_000], 0, Hour, &few),
         Some([0, 0, 0, 0, 60, 999])
