@@ -1,25 +1,21 @@
 -- A report grows by a line. Assumes nothing.
-use Rattle.std.proofs.Common.{◌≡◌, ℕ, ◌+◌, ◌≤◌, List, [], ◌∷◌, ◌++◌, length, ap, append_assoc, add_assoc, arith}
-use Rattle.std.proofs.lemmas.List.{append-nil, nil_from_length}
+use Rattle.std.proofs.Common.{◌≡◌, ℕ, ◌+◌, List, [], ◌∷◌, ◌++◌, append_assoc, add_assoc, arith}
+use Rattle.std.proofs.lemmas.List.{append-nil}
 use Rattle.seconds.specs.Seconds.{seconds}
-use Rattle.seconds.specs.Report.{lines, line_text, numbered, time, sum}
+use Rattle.seconds.specs.Report.{line_text, numbered, time, sum}
 
-pub text_more : (text more whole l bs rest : List ℕ) (n : ℕ) → more ≡ text ++ line_text n l → lines bs ≡ l ∷ lines rest → text ++ numbered n (lines bs) ≡ whole → more ++ numbered (n + 1) (lines rest) ≡ whole
+pub text_more : (text more whole l : List ℕ) (ls ms : List (List ℕ)) (n : ℕ) → more ≡ text ++ line_text n l → ls ≡ l ∷ ms → text ++ numbered n ls ≡ whole → more ++ numbered (n + 1) ms ≡ whole
 unfolding numbered
-text_more text more whole l bs rest n e f g = rw (e, append_assoc) (rw f at g)
+text_more text more whole l ls ms n e f g = rw (e, append_assoc) (rw f at g)
 
-pub sum_more : (m whole : ℕ) (l bs rest : List ℕ) → lines bs ≡ l ∷ lines rest → m + sum (lines bs) ≡ whole → (m + time (seconds l)) + sum (lines rest) ≡ whole
+pub sum_more : (m whole : ℕ) (l : List ℕ) (ls ms : List (List ℕ)) → ls ≡ l ∷ ms → m + sum ls ≡ whole → (m + time (seconds l)) + sum ms ≡ whole
 unfolding sum
-sum_more m whole l bs rest f g = rw add_assoc (rw f at g)
+sum_more m whole l ls ms f g = rw add_assoc (rw f at g)
 
-no_lines : (bs : List ℕ) → length bs ≤ 0 → lines bs ≡ []
-unfolding lines
-no_lines bs e = ap lines (nil_from_length bs (omega arith))
-
-pub text_all : (text whole bs : List ℕ) (n : ℕ) → length bs ≤ 0 → text ++ numbered n (lines bs) ≡ whole → text ≡ whole
+pub text_all : (text whole : List ℕ) (ls : List (List ℕ)) (n : ℕ) → ls ≡ [] → text ++ numbered n ls ≡ whole → text ≡ whole
 unfolding numbered
-text_all text whole bs n e g = rw append-nil at (rw (no_lines bs e) at g)
+text_all text whole ls n e g = rw append-nil at (rw e at g)
 
-pub sum_all : (m whole : ℕ) (bs : List ℕ) → length bs ≤ 0 → m + sum (lines bs) ≡ whole → m ≡ whole
+pub sum_all : (m whole : ℕ) (ls : List (List ℕ)) → ls ≡ [] → m + sum ls ≡ whole → m ≡ whole
 unfolding sum
-sum_all m whole bs e g = let h = rw (no_lines bs e) at g in omega arith
+sum_all m whole ls e g = let h = rw e at g in omega arith

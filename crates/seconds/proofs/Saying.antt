@@ -24,9 +24,9 @@ pub record Follows (m : ℕ) (rest : List ℕ) (n : ℕ) : Type 0 where
   pub time : n ≡ m * ns Second + billionths part
 
 by_part : (m n : ℕ) (ds rest : List ℕ) → with_fraction m (fraction_by ds rest) ≡ Ok n → (0 < length ds) × (rest ≡ []) × (n ≡ m * ns Second + billionths ds)
-by_part m n [] rest e = let no : ◌≡◌ {A = ℕ} 0 1 = cc in absurd (omega arith)
+by_part m n [] rest e = cc
 by_part m n (d ∷ ds) [] e = (omega arith, refl, cc)
-by_part m n (d ∷ ds) (b ∷ rest) e = let no : ◌≡◌ {A = ℕ} 0 1 = cc in absurd (omega arith)
+by_part m n (d ∷ ds) (b ∷ rest) e = cc
 
 follows : (m n : ℕ) (rest : List ℕ) → with_fraction m (temporal_fraction rest) ≡ Ok n → Follows m rest n
 follows m n [] e = record { part = []; ends = refl; digits = tt; few = omega arith; time = rw nothing (cc) }
@@ -35,18 +35,18 @@ follows m n (s ∷ bs) e = elim (cases_Bool (is_separator s)) [
       let read = front_law 9 bs in
       let p = by_part m n (front 9 bs) (behind 9 bs) (rw yes' at e) in
       record { part = front 9 bs; ends = (yes', rw (p.1, append-nil) at (sym read.whole), p.0); digits = read.digits; few = read.few; time = p.2 }
-  | inr no' ↦ let f = rw no' at e in let no : ◌≡◌ {A = ℕ} 0 1 = cc in absurd (omega arith)
+  | inr no' ↦ let f = rw no' at e in cc
 ]
 
 by_whole : (n : ℕ) (ds rest : List ℕ) → by_prefix (prefix_by ds rest) ≡ Ok n → (0 < length ds) × (number ds < 2 ^ 63) × (with_fraction (number ds) (temporal_fraction rest) ≡ Ok n)
-by_whole n [] rest e = let no : ◌≡◌ {A = ℕ} 0 1 = cc in absurd (omega arith)
+by_whole n [] rest e = cc
 by_whole n (d ∷ ds) rest e =
     let m = number (d ∷ ds) in
     elim (cases_lt m (2 ^ 63)) [
       | inl h ↦ (omega arith, h, rw (lt-ltb m (2 ^ 64) (omega arith), lt-ltb m (2 ^ 63) h) at e)
       | inr h ↦ elim (cases_lt m (2 ^ 64)) [
-        | inl k ↦ let f = rw (lt-ltb m (2 ^ 64) k, le-ltb m (2 ^ 63) h) at e in let no : ◌≡◌ {A = ℕ} 0 1 = cc in absurd (omega arith)
-        | inr k ↦ let f = rw (le-ltb m (2 ^ 64) k) at e in let no : ◌≡◌ {A = ℕ} 0 1 = cc in absurd (omega arith)
+        | inl k ↦ let f = rw (lt-ltb m (2 ^ 64) k, le-ltb m (2 ^ 63) h) at e in cc
+        | inr k ↦ let f = rw (le-ltb m (2 ^ 64) k) at e in cc
       ]
     ]
 

@@ -3,6 +3,7 @@
 #![tactic(auto)]
 
 mod line;
+mod lines;
 mod report;
 #[cfg(test)]
 mod tests;

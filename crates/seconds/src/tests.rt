@@ -3,10 +3,9 @@ use std::test::Fail;
 
 // A line as its seconds and nanoseconds, or as the number of its refusal.
 fn read(line: &[u8]) -> Result<(i64, i32), u8> {
-    match read_seconds(line) {
-        Ok(duration) => Ok((duration.as_secs(), duration.subsec_nanos())),
-        Err(fault) => Err(fault.number()),
-    }
+    read_seconds(line)
+        .map(|duration| (duration.as_secs(), duration.subsec_nanos()))
+        .map_err(|fault| fault.number())
 }
 
 #[test]
@@ -58,9 +57,7 @@ fn reports(rt: HostRuntime) -> Result<(), Fail> {
         ),
     ];
     for (input, expected) in cases {
-        let Ok(text) = add_up(rt.alloc(), input) else {
-            return Err(Fail::new("no memory"));
-        };
+        let text = add_up(rt.alloc(), input)?;
         assert_eq!(rt; text.as_str(), expected);
     }
     Ok(())
