@@ -121,28 +121,25 @@ mod tests {
     use super::*;
     use units::Told;
 
-    // A refusal by its number and the byte that it tells, 0 if it tells none.
-    fn numbered<T>(res: Result<T, Fault>) -> Result<T, (u8, u8)> {
-        res.map_err(|fault| match fault.tells() {
-            Told::Byte(byte) => (fault.number(), byte),
-            _ => (fault.number(), 0),
-        })
+    // A refusal by its number and what it tells.
+    fn numbered<T>(res: Result<T, Fault>) -> Result<T, (u8, Told)> {
+        res.map_err(|fault| (fault.number(), fault.tells()))
     }
 
     #[test]
     fn whole_numbers(rt: HostRuntime) {
-        let cases: [(&[u8], Result<(Option<u64>, &[u8]), (u8, u8)>); 12] = [
+        let cases: [(&[u8], Result<(Option<u64>, &[u8]), (u8, Told)>); 12] = [
             (b"", Ok((None, b""))),
             (b"S12", Ok((None, b"S12"))),
             (b"12H30M", Ok((Some(12), b"H30M"))),
             (b"18446744073709551615", Ok((Some(u64::MAX), b""))),
-            (b"18446744073709551616", Err((14, 0))),
+            (b"18446744073709551616", Err((14, Told::Nothing))),
             (b"00000000000000000012", Ok((Some(12), b""))),
             (b"018446744073709551615Y", Ok((Some(u64::MAX), b"Y"))),
-            (b"018446744073709551616", Err((14, 0))),
-            (b"100000000000000000000", Err((14, 0))),
+            (b"018446744073709551616", Err((14, Told::Nothing))),
+            (b"100000000000000000000", Err((14, Told::Nothing))),
             (b"0000000000000000000123", Ok((Some(12), b"3"))),
-            (b"1000000000000000000000", Err((14, 0))),
+            (b"1000000000000000000000", Err((14, Told::Nothing))),
             (b"0000000000000000000000", Ok((Some(0), b"0"))),
         ];
         for (bytes, expected) in cases {
@@ -152,16 +149,16 @@ mod tests {
 
     #[test]
     fn fractions(rt: HostRuntime) {
-        let cases: [(&[u8], Result<u32, (u8, u8)>); 9] = [
-            (b"", Err((16, 0))),
+        let cases: [(&[u8], Result<u32, (u8, Told)>); 9] = [
+            (b"", Err((16, Told::Nothing))),
             (b"0", Ok(0)),
             (b"5", Ok(500_000_000)),
             (b"000000001", Ok(1)),
             (b"999999999", Ok(999_999_999)),
-            (b"1234567890", Err((17, 0))),
-            (b"123456789x", Err((17, 0))),
-            (b"/1", Err((18, b'/'))),
-            (b"1:2x", Err((18, b':'))),
+            (b"1234567890", Err((17, Told::Nothing))),
+            (b"123456789x", Err((17, Told::Nothing))),
+            (b"/1", Err((18, Told::Byte(b'/')))),
+            (b"1:2x", Err((18, Told::Byte(b':')))),
         ];
         for (bytes, expected) in cases {
             assert_eq!(rt; numbered(fraction(bytes)), expected);
@@ -170,16 +167,16 @@ mod tests {
 
     #[test]
     fn temporal_fractions(rt: HostRuntime) {
-        let cases: [(&[u8], Result<(Option<u32>, &[u8]), (u8, u8)>); 9] = [
+        let cases: [(&[u8], Result<(Option<u32>, &[u8]), (u8, Told)>); 9] = [
             (b"", Ok((None, b""))),
             (b"5S", Ok((None, b"5S"))),
-            (b".", Err((15, 0))),
-            (b",", Err((15, 0))),
-            (b".S", Err((15, 0))),
+            (b".", Err((15, Told::Nothing))),
+            (b",", Err((15, Told::Nothing))),
+            (b".S", Err((15, Told::Nothing))),
             (b".5S", Ok((Some(500_000_000), b"S"))),
             (b",123456789", Ok((Some(123_456_789), b""))),
             (b".1234567890", Ok((Some(123_456_789), b"0"))),
-            (b",,5", Err((15, 0))),
+            (b",,5", Err((15, Told::Nothing))),
         ];
         for (input, expected) in cases {
             assert_eq!(rt; numbered(parse_temporal_fraction(input)), expected);

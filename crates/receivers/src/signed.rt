@@ -1,9 +1,7 @@
 // The signed duration as a receiver.
-ghost use Rattle.std.specs.Prelude.{◌≡◌, ◌*◌, ◌/◌, ◌%◌, ◌+ℤ◌};
-ghost use Rattle.std.specs.Duration.{as_nanos};
+ghost use Rattle.std.specs.Prelude.{◌≡◌, ◌*◌, ◌+ℤ◌};
+ghost use Rattle.std.specs.Duration.{as_nanos, FitsDuration};
 ghost use Rattle.units.specs.Signs.{signed};
-ghost use Rattle.units.specs.Table.{ns};
-ghost use Rattle.units.specs.declared.unit.Unit.TheVariants.{Second};
 ghost use Rattle.durations.specs.Totals.{total as nanos_total, Exact};
 ghost use Rattle.receivers.specs.Keeping.{Keeps};
 ghost use Rattle.receivers.specs.Ranges.{signed_ends};
@@ -15,23 +13,18 @@ use crate::receiver::Receiver;
 use crate::unit_count::UnitCount;
 use durations::SignedDuration;
 use std::time::Duration;
-use units::{Fault, NANOS_PER_SEC};
+use units::Fault;
 
-// Half of the whole seconds of a time, few enough for an i64 under either sign.
-fn half(time: Duration, negative: bool) -> SignedDuration
-    ensures { nanos_total result ≡ signed negative (as_nanos time / (2 * ns Second) * ns Second) }
+// A time under a sign, short enough for a signed duration.
+fn with_sign(time: Duration, negative: bool) -> SignedDuration
+    requires { FitsDuration (as_nanos time * 2) }
+    ensures { nanos_total result ≡ signed negative (as_nanos time) }
 {
-    let secs = plus_signed(0, time.as_secs() / 2, negative).unwrap();
-    SignedDuration::from_secs(secs)
-}
-
-// What is left of a time besides two such halves.
-fn rest(time: Duration, negative: bool) -> SignedDuration
-    ensures { nanos_total result ≡ signed negative (as_nanos time % (2 * ns Second)) }
-{
-    let odd = time.as_secs() % 2 * NANOS_PER_SEC;
-    let nanos = plus_signed(0, odd + u64::from(time.subsec_nanos()), negative).unwrap();
-    SignedDuration::from_nanos(nanos)
+    let time = SignedDuration::try_from(time).unwrap();
+    if negative {
+        return time.checked_neg().unwrap();
+    }
+    time
 }
 
 // The duration moved by a signed time, absent exactly when no duration has the sum. The time may
@@ -39,10 +32,11 @@ fn rest(time: Duration, negative: bool) -> SignedDuration
 fn shifted(before: SignedDuration, time: Duration, negative: bool) -> Option<SignedDuration>
     ensures { Exact result (nanos_total before +ℤ signed negative (as_nanos time)) }
 {
-    let half = half(time, negative);
+    let part = time / 2;
+    let half = with_sign(part, negative);
     let first = before.checked_add(half)?;
     let second = first.checked_add(half)?;
-    second.checked_add(rest(time, negative))
+    second.checked_add(with_sign(time - part - part, negative))
 }
 
 fn moved(before: SignedDuration, count: UnitCount, negative: bool) -> Option<SignedDuration>

@@ -7,9 +7,9 @@ use units::{Fault, Unit};
 
 const TWO_TO_63: u64 = 1 << 63;
 
-// The number of the refusal, 0 for acceptance.
-fn number(answer: Result<(), Fault>) -> u8 {
-    answer.err().map_or(0, |fault| fault.number())
+// A refusal by its number.
+fn numbered(answer: Result<(), Fault>) -> Result<(), u8> {
+    answer.map_err(|fault| fault.number())
 }
 
 fn of(magnitude: u64, unit: Unit) -> UnitCount {
@@ -17,10 +17,14 @@ fn of(magnitude: u64, unit: Unit) -> UnitCount {
 }
 
 // Offers counts in turn, each with the number of its answer, and asks for that answer before.
-fn offer<R: Receiver>(rt: &impl Abort, mut receiver: R, offers: &[(UnitCount, bool, u8)]) -> R {
+fn offer<R: Receiver>(
+    rt: &impl Abort,
+    mut receiver: R,
+    offers: &[(UnitCount, bool, Result<(), u8>)],
+) -> R {
     for &(count, negative, answer) in offers {
-        assert_eq!(rt; number(receiver.would_take(count, negative)), answer);
-        assert_eq!(rt; number(receiver.take(count, negative)), answer);
+        assert_eq!(rt; numbered(receiver.would_take(count, negative)), answer);
+        assert_eq!(rt; numbered(receiver.take(count, negative)), answer);
     }
     receiver
 }
@@ -32,13 +36,13 @@ fn run_counter(rt: HostRuntime) {
         &rt,
         RunCounter::new(),
         &[
-            (of(TWO_TO_63, Nanosecond), false, 9),
-            (of(TWO_TO_63 + 1, Nanosecond), true, 9),
-            (of(TWO_TO_63, Hour), false, 9),
-            (of(u64::MAX, Day), false, 8),
-            (of(2_562_048, Hour), false, 10),
-            (of(TWO_TO_63 - 1, Nanosecond), false, 0),
-            (of(1, Nanosecond), false, 10),
+            (of(TWO_TO_63, Nanosecond), false, Err(9)),
+            (of(TWO_TO_63 + 1, Nanosecond), true, Err(9)),
+            (of(TWO_TO_63, Hour), false, Err(9)),
+            (of(u64::MAX, Day), false, Err(8)),
+            (of(2_562_048, Hour), false, Err(10)),
+            (of(TWO_TO_63 - 1, Nanosecond), false, Ok(())),
+            (of(1, Nanosecond), false, Err(10)),
         ],
     );
     assert_eq!(rt; highest.as_nanos(), i64::MAX);
@@ -46,9 +50,9 @@ fn run_counter(rt: HostRuntime) {
         &rt,
         highest,
         &[
-            (of(TWO_TO_63, Nanosecond), true, 0),
-            (of(TWO_TO_63 - 1, Nanosecond), true, 0),
-            (of(1, Nanosecond), true, 10),
+            (of(TWO_TO_63, Nanosecond), true, Ok(())),
+            (of(TWO_TO_63 - 1, Nanosecond), true, Ok(())),
+            (of(1, Nanosecond), true, Err(10)),
         ],
     );
     assert_eq!(rt; lowest.as_nanos(), i64::MIN);
@@ -63,15 +67,15 @@ fn signed(rt: HostRuntime) {
         &rt,
         SignedDuration::from_secs(0),
         &[
-            (of(TWO_TO_63, Nanosecond), false, 9),
-            (of(TWO_TO_63 + 1, Nanosecond), true, 9),
-            (of(1, Day), false, 8),
-            (of(TWO_TO_63, Nanosecond), true, 0),
-            (of(TWO_TO_63 - 1, Nanosecond), false, 0),
-            (of(1, Nanosecond), false, 0),
-            (of(TWO_TO_63 - 1, Second), false, 0),
-            (of(999_999_999, Nanosecond), false, 0),
-            (of(1, Nanosecond), false, 10),
+            (of(TWO_TO_63, Nanosecond), false, Err(9)),
+            (of(TWO_TO_63 + 1, Nanosecond), true, Err(9)),
+            (of(1, Day), false, Err(8)),
+            (of(TWO_TO_63, Nanosecond), true, Ok(())),
+            (of(TWO_TO_63 - 1, Nanosecond), false, Ok(())),
+            (of(1, Nanosecond), false, Ok(())),
+            (of(TWO_TO_63 - 1, Second), false, Ok(())),
+            (of(999_999_999, Nanosecond), false, Ok(())),
+            (of(1, Nanosecond), false, Err(10)),
         ],
     );
     assert_eq!(rt;
@@ -82,11 +86,11 @@ fn signed(rt: HostRuntime) {
         &rt,
         highest,
         &[
-            (of(TWO_TO_63, Hour), true, 10),
-            (of(5_124_095_576_030_431, Hour), true, 0),
-            (of(16, Second), true, 0),
-            (of(999_999_998, Nanosecond), true, 0),
-            (of(1, Nanosecond), true, 10),
+            (of(TWO_TO_63, Hour), true, Err(10)),
+            (of(5_124_095_576_030_431, Hour), true, Ok(())),
+            (of(16, Second), true, Ok(())),
+            (of(999_999_998, Nanosecond), true, Ok(())),
+            (of(1, Nanosecond), true, Err(10)),
         ],
     );
     assert_eq!(rt;
@@ -104,14 +108,14 @@ fn unsigned(rt: HostRuntime) {
         &rt,
         Duration::ZERO,
         &[
-            (of(1, Nanosecond), true, 9),
-            (of(0, Nanosecond), true, 0),
-            (of(0, Day), true, 8),
-            (of(5_124_095_576_030_432, Hour), false, 10),
-            (of(307_445_734_561_825_861, Minute), false, 10),
-            (of(u64::MAX, Second), false, 0),
-            (of(999_999_999, Nanosecond), false, 0),
-            (of(1, Nanosecond), false, 10),
+            (of(1, Nanosecond), true, Err(9)),
+            (of(0, Nanosecond), true, Ok(())),
+            (of(0, Day), true, Err(8)),
+            (of(5_124_095_576_030_432, Hour), false, Err(10)),
+            (of(307_445_734_561_825_861, Minute), false, Err(10)),
+            (of(u64::MAX, Second), false, Ok(())),
+            (of(999_999_999, Nanosecond), false, Ok(())),
+            (of(1, Nanosecond), false, Err(10)),
         ],
     );
     assert_eq!(rt;

@@ -1,5 +1,5 @@
 // The library's unsigned duration as a receiver.
-ghost use Rattle.std.specs.Prelude.{◌≡◌, Bool};
+ghost use Rattle.std.specs.Prelude.{Bool};
 ghost use Rattle.units.specs.Signs.{signed};
 ghost use Rattle.receivers.specs.Keeping.{Keeps};
 ghost use Rattle.receivers.specs.Ranges.{unsigned_ends, unsigned_total};

@@ -1,10 +1,9 @@
 // The report on lines of seconds, and their sum.
-ghost use Rattle.std.specs.Prelude.{◌≡◌, ℕ, ◌+◌, ◌<◌, ◌≤◌, [], ◌∷◌, length, IfOk, MatchOption, Some, string_bytes, Result};
-ghost use Rattle.std.specs.List.{position_or_len};
+ghost use Rattle.std.specs.Prelude.{◌≡◌, ℕ, ◌+◌, IfOk, Some, string_bytes, Result};
 ghost use Rattle.std.specs.Result.{result_map_both};
 ghost use Rattle.durations.specs.Totals.{total};
 ghost use Rattle.seconds.specs.Seconds.{Is};
-ghost use Rattle.seconds.specs.Report.{is_feed, lines, answer_text, in_range, time, report};
+ghost use Rattle.seconds.specs.Report.{answer_text, in_range, time, report};
 
 use crate::line::read_seconds;
 use crate::lines::Lines;

@@ -97,7 +97,7 @@ impl Fault {
     }
 }
 
-// As a line of a report says it: the number alone.
+// `refused` and its number; what else it tells is in `tells`.
 impl fmt::Display for Fault {
     ghost output = { λ fault. Some (refusal_text fault) };
 

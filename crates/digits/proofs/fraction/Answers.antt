@@ -7,12 +7,6 @@ use Rattle.digits.proofs.fraction.Goals as goal
 next : (c : goal.After-from) → Read (c.loop-byte.billionths + c.from.result * (c.loop-byte.place / 10)) (c.loop-byte.place / 10) (c.loop-byte.byte-index + 1) c.args.bytes.now
 next c = read_more _ _ _ _ _ (search rules) (search rules) (search rules) c.from.ensures c.loop-byte.invariant
 
-pub overflow_mul-billionths : goal.overflow_mul-billionths
-overflow_mul-billionths c = omega (arith, (next c).room)
-
-pub overflow_add-billionths : goal.overflow_add-billionths
-overflow_add-billionths c = omega (arith, (next c).room)
-
 pub loop-byte-preserved : goal.loop-byte-preserved
 loop-byte-preserved c = next c
 

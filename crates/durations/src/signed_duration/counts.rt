@@ -5,7 +5,7 @@ ghost use Rattle.units.specs.declared.unit.Unit.TheVariants.{Nanosecond, Microse
 ghost use Rattle.durations.specs.Totals.{total, Exact};
 
 use super::SignedDuration;
-use crate::fine_unit::FineUnit;
+use crate::fine_unit::{FineUnit, WholeUnit};
 use crate::ratios::*;
 
 impl SignedDuration {
@@ -17,12 +17,11 @@ impl SignedDuration {
         SignedDuration::of_parts(secs, rest * unit.nanos)
     }
 
-    // So many units of `secs_each` seconds each, absent exactly when no duration lasts so long.
-    fn of_whole_units(count: i64, secs_each: i64) -> Option<SignedDuration>
-        requires { pos 0 <ℤ secs_each }
-        ensures { Exact result (count *ℤ pos (unsigned_abs secs_each * ns Second)) }
+    // So many units of whole seconds, absent exactly when no duration lasts so long.
+    fn of_whole_units(count: i64, unit: WholeUnit) -> Option<SignedDuration>
+        ensures { Exact result (count *ℤ pos (unsigned_abs unit.secs * ns Second)) }
     {
-        let secs = count.checked_mul(secs_each)?;
+        let secs = count.checked_mul(unit.secs)?;
         Some(SignedDuration::from_secs(secs))
     }
 
@@ -55,12 +54,12 @@ impl SignedDuration {
     pub fn try_from_hours(hours: i64) -> Option<SignedDuration>
         ensures { Exact result (hours *ℤ pos (ns Hour)) }
     {
-        SignedDuration::of_whole_units(hours, SECS_PER_HOUR)
+        SignedDuration::of_whole_units(hours, HOUR)
     }
 
     pub fn try_from_mins(mins: i64) -> Option<SignedDuration>
         ensures { Exact result (mins *ℤ pos (ns Minute)) }
     {
-        SignedDuration::of_whole_units(mins, SECS_PER_MINUTE)
+        SignedDuration::of_whole_units(mins, MINUTE)
     }
 }

@@ -5,16 +5,15 @@ ghost use Rattle.units.specs.declared.unit.Unit.TheVariants.{Microsecond, Millis
 ghost use Rattle.durations.specs.Totals.{total, Split, Counted, Cuts};
 
 use super::SignedDuration;
-use crate::fine_unit::FineUnit;
+use crate::fine_unit::{FineUnit, WholeUnit};
 use crate::ratios::*;
 
 impl SignedDuration {
-    // The whole units of so many seconds each, and what is left.
-    fn whole_units(&self, secs_each: i64) -> (i64, SignedDuration)
-        requires { (pos 0 <ℤ secs_each) × (secs_each ≤ℤ pos (ns Second)) }
-        ensures { Split (unsigned_abs secs_each * ns Second) (total self.now) result }
+    // The units of whole seconds, and what is left.
+    fn whole_units(&self, unit: WholeUnit) -> (i64, SignedDuration)
+        ensures { Split (unsigned_abs unit.secs * ns Second) (total self.now) result }
     {
-        let (count, secs) = cut(self.secs, secs_each);
+        let (count, secs) = cut(self.secs, unit.secs);
         let rest = SignedDuration::of_parts(secs as i64, self.nanos);
         (count, rest)
     }
@@ -33,13 +32,13 @@ impl SignedDuration {
     pub fn as_hours_with_remainder(&self) -> (i64, SignedDuration)
         ensures { Split (ns Hour) (total self.now) result }
     {
-        self.whole_units(SECS_PER_HOUR)
+        self.whole_units(HOUR)
     }
 
     pub fn as_mins_with_remainder(&self) -> (i64, SignedDuration)
         ensures { Split (ns Minute) (total self.now) result }
     {
-        self.whole_units(SECS_PER_MINUTE)
+        self.whole_units(MINUTE)
     }
 
     #[tactic(auto, using(crate::proofs::Parting::cuts))]
@@ -47,7 +46,7 @@ impl SignedDuration {
         ensures parts { Split (ns Second) (total self.now) result }
         ensures toward_zero { Cuts }
     {
-        self.whole_units(1)
+        self.whole_units(SECOND)
     }
 
     // Absent exactly when the count is no i64, as is the next.

@@ -8,16 +8,16 @@ use Rattle.durations.proofs.signed_duration.SignedDuration.of_whole_units.Goals 
 pub returns-in_err-secs : goal.returns-in_err-secs
 returns-in_err-secs c = rw c.from_residual.ensures (λ fit.
     let z = c.ranges.count in
-    let k = c.ranges.secs_each in
-    let f = rw (in_seconds c.args.count c.args.secs_each c.requires) at fit in
-    let none : SFits w64 (c.args.count *ℤ c.args.secs_each) → ⊥ = simp to_z-of_z at c.in_err-secs.ensures in
+    let k : SFits w64 c.args.unit.secs = search rules in
+    let f = rw (in_seconds c.args.count c.args.unit.secs c.args.unit.some) at fit in
+    let none : SFits w64 (c.args.count *ℤ c.args.unit.secs) → ⊥ = simp to_z-of_z at c.in_err-secs.ensures in
     none (omega (arith, ints)))
 
 pub returns : goal.returns
 returns c =
     let z = c.ranges.count in
-    let k = c.ranges.secs_each in
+    let k : SFits w64 c.args.unit.secs = search rules in
     let f : SFits w64 c.in_ok-secs.secs = search rules in
-    let secs : c.in_ok-secs.secs ≡ c.args.count *ℤ c.args.secs_each = simp to_z-of_z at c.in_ok-secs.ensures.1 in
+    let secs : c.in_ok-secs.secs ≡ c.args.count *ℤ c.args.unit.secs = simp to_z-of_z at c.in_ok-secs.ensures.1 in
     let sum : total c.from_secs.result ≡ c.in_ok-secs.secs *ℤ pos 1000000000 = simp to_z-of_z at c.from_secs.ensures in
-    rw (in_seconds c.args.count c.args.secs_each c.requires, ← secs) (fits_secs c.in_ok-secs.secs f, sum)
+    rw (in_seconds c.args.count c.args.unit.secs c.args.unit.some, ← secs) (fits_secs c.in_ok-secs.secs f, sum)

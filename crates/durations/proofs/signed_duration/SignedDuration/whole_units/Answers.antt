@@ -8,7 +8,7 @@ use Rattle.durations.proofs.signed_duration.SignedDuration.whole_units.Goals as 
 pub returns : goal.returns
 returns c =
     let d = c.args.self.now in
-    let k = c.args.secs_each in
+    let k = c.args.unit.secs in
     let fs : SFits w64 d.secs = search rules in
     let fp : SFits w32 d.nanos = search rules in
     let fk : SFits w64 k = search rules in
