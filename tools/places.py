@@ -72,7 +72,7 @@ def main():
                 place("1", "a value taken out by `let .. else`, to give up without it", path, n, line)
             if re.match(r"\s*(Some|Ok|Err|None)(\(.*\))? => (Some|Ok|Err|None|Answer|write|return Err|unreachable)\b", line) or re.match(r"\s*Ok\(\(\)\) => ", line):
                 place("1", "an arm that only passes an Option or a Result on", path, n, line)
-            if re.search(r"\bfor code in|\[code\]|\(code\)\)", line) and "fn from_code" not in line:
+            if re.search(r"\bfor code in|\[(code|place)\b|\(code\)\)", line) and "fn from_code" not in line:
                 place("1", "a loop or an index by the number of a unit", path, n, line)
             if re.search(r"\bwhile\b|\bfor \w+ in \(?0\.\.", line):
                 place("3", "a loop that counts, or goes on by hand", path, n, line)
@@ -81,7 +81,7 @@ def main():
             if re.search(r"impl(<.*>)? (PartialEq|PartialOrd|Ord|Eq|Hash|Clone|Copy|Default|From<.*>|TryFrom<.*>|fmt::Display|fmt::Debug) for", line):
                 place("4", "an impl of a comparison, a conversion or a text by hand", path, n, line)
             if re.search(r"fn (same_sign|is_zero|is_separator|positive|duration|negated|sign_text|at_most|from_code)\b", line):
-                place("4", "a function that compares, converts or writes", path, n, line)
+                place("4", "a function that compares, converts or writes, by the names at the start", path, n, line)
             if re.search(r": &?\[\w+; \w+\]", line):
                 place("6", "an array by unit code, or a set in one number", path, n, line)
             if re.search(r"bits: u16,", line) and "fn " not in line:
@@ -97,7 +97,8 @@ def main():
                 shapes[form].append((path, n, name))
             for clause in clauses:
                 if clause.startswith("requires"):
-                    facts[re.sub(r"\b(unit|secs_each|size|count|per_sec)\b", "x", clause)].append((path, n, name))
+                    for fact in re.sub(r"requires( \w+)? \{ (.*) \}$", r"\2", clause).split(" × "):
+                        facts[re.sub(r"\b(unit|secs_each|size)\b", "x", fact).strip("()")].append((path, n, name))
             names = tuple(sorted(re.findall(r"(\w+): ", re.sub(r"requires.*|ensures.*", "", signature))))
             if len(names) >= 2:
                 groups[names].append((path, n, name))

@@ -14,7 +14,8 @@ pub trait Receiver: Sized + Drop {
     ghost ends: { Self → Ends };
 
     // The receiver after a count, or the first refusal that applies: 8, a calendar unit; 9, a signed
-    // count out of range; 10, a total out of range.
+    // count out of range; 10, a total out of range. The sign stands apart, since one holds for many
+    // counts.
     fn taken(&self, count: UnitCount, negative: bool) -> Result<Self, Fault>
         ensures taken { Taken total (ends self.now) (total self.now) (signed negative count.magnitude) count.unit result }
         ensures ends { IfOk result (λ r. ends r ≡ ends self.now) };

@@ -6,7 +6,7 @@ ghost use Rattle.spans.specs.Bits.{bit, one_if, with_bit};
 
 use units::Unit;
 
-// Bit k stands for the unit of code k.
+// Bit k stands for the unit of code k: ten flags in fixed memory.
 #[derive(Clone, Copy, PartialEq, Eq, Debug)]
 pub struct UnitSet {
     bits: u16,

@@ -4,7 +4,7 @@ ghost use Rattle.units.specs.Limits.{clock_limits, UpTo};
 
 use units::Unit;
 
-// By unit code, each at most the table's.
+// By unit code, in fixed memory, each at most the table's.
 #[derive(Clone, Copy)]
 pub struct ClockLimits {
     limits: [u64; 6],

@@ -117,7 +117,7 @@ impl Unit {
         self.row().code
     }
 
-    // The unit of a code, absent above 9.
+    // The unit of a code, absent above 9. `TryFrom` would want an error, which could say no more.
     #[tactic(auto, using(crate::proofs::Tables::table_rule))]
     pub fn from_code(code: u8) -> Option<Unit>
         ensures unit { result ≡ unit_of code }
@@ -147,7 +147,7 @@ impl Unit {
         self.row().nanoseconds.is_none()
     }
 
-    // The order of the units: whether this one is no larger than the other.
+    // The order of the units: whether this one is no larger than the other. Units have no operators.
     pub fn at_most(self, other: Unit) -> bool
         ensures { result ≡ nat_le (code self) (code other) }
     {

@@ -28,7 +28,8 @@ impl SignedDuration {
         Some((count, rest))
     }
 
-    // The whole hours, cut toward zero, and what is left; likewise the next four.
+    // The source's names, each a line over what is above: the whole hours, cut toward zero, and what
+    // is left; likewise the next four.
     pub fn as_hours_with_remainder(&self) -> (i64, SignedDuration)
         ensures { Split (ns Hour) (total self.now) result }
     {

@@ -22,7 +22,8 @@ impl Span {
         unit.time(self.magnitude(unit)).unwrap()
     }
 
-    // The time of all clock units, without the sign: less than half of what a Duration holds.
+    // The time of all clock units, without the sign: less than half of what a Duration holds. Six
+    // terms, since an iterator's sum is not found to fit.
     fn clock_time(&self) -> Duration
         ensures value { as_nanos result ≡ time_from 0 self.now.magnitudes }
         ensures short { FitsDuration (as_nanos result * 2) }

@@ -1,4 +1,5 @@
-// Equality of spans. The set of units tells nothing that the magnitudes do not.
+// Equality of spans. The set of units tells nothing that the magnitudes do not. It is no derive,
+// which would have no clauses.
 ghost use Rattle.std.specs.Prelude.{◌≡◌};
 ghost use Rattle.std.specs.Bool.{Decides};
 ghost use Rattle.spans.specs.Spans.{shown, same, Sameness};

@@ -54,6 +54,7 @@ impl Span {
         })
     }
 
+    // The source's names, each a line over the setter of any unit.
     pub fn try_years(self, years: i64) -> Result<Span, Fault>
         ensures { result_map_both shown (λ f. f) result ≡ with_value (shown self) Year years }
     {
