@@ -3,7 +3,6 @@
 #![tactic(auto)]
 
 mod line;
-mod lines;
 mod report;
 #[cfg(test)]
 mod tests;

@@ -6,7 +6,6 @@ ghost use Rattle.seconds.specs.Seconds.{Is};
 ghost use Rattle.seconds.specs.Report.{answer_text, in_range, time, report};
 
 use crate::line::read_seconds;
-use crate::lines::Lines;
 use durations::SignedDuration;
 use std::alloc::Global;
 use std::fmt;
@@ -46,7 +45,9 @@ pub fn add_up(heap: Global, input: &[u8]) -> Result<String, fmt::Error>
 {
     let mut text = String::new(heap);
     let mut sum = Answer(Ok(SignedDuration::from_secs(0)));
-    for (before, line) in Lines(input).enumerate() {
+    for (before, piece) in input.split_inclusive(|byte| *byte == b'\n').enumerate() {
+        // The last line may have no line feed.
+        let line = piece.strip_suffix(b"\n").unwrap_or(piece);
         let answer = Answer(read_seconds(line));
         let number = before + 1;
         writeln!(text, "{number} {answer}")?;

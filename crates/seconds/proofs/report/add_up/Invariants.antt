@@ -1,4 +1,5 @@
 use Rattle.std.proofs.Common.{◌≡◌, ℕ, ◌+◌, ◌++◌, string_bytes}
+use Rattle.std.specs.Slice.Iter.{split_inclusive_rest}
 use Rattle.seconds.specs.Seconds.{Is}
 use Rattle.seconds.specs.Report.{lines, numbered, sum, in_range}
 use Rattle.seconds.proofs.report.add_up.Given as goal
@@ -6,7 +7,7 @@ use Rattle.seconds.proofs.report.add_up.Given as goal
 -- What is printed, and the sum, as far as the lines have come.
 abbrev pub invariant-loop-before : goal.invariant-loop-before
 invariant-loop-before l =
-    let to_come = lines l.before-iterator.iter.0.now in
+    let to_come = lines (split_inclusive_rest l.before-iterator.iter) in
     record {
       can : (goal.iterator-loop-before).can_next l.before-iterator;
       ends : (goal.iterator-loop-before).is_finite l.before-iterator;
