@@ -1,4 +1,4 @@
-// The units of a duration, as signed numbers that it is counted by.
+// The units that a duration is counted by, as signed numbers.
 ghost use Rattle.std.specs.Prelude.{pos, ◌<ℤ◌, ◌≤ℤ◌};
 ghost use Rattle.units.specs.Table.{ns};
 ghost use Rattle.units.specs.declared.unit.Unit.TheVariants.{Second};

@@ -16,7 +16,7 @@ fn of(magnitude: u64, unit: Unit) -> UnitCount {
     UnitCount { magnitude, unit }
 }
 
-// Offers counts in turn, each with the number of its answer, and asks for that answer before.
+// Offers counts in turn, each with its answer, a refusal by its number, and asks for that answer before.
 fn offer<R: Receiver>(
     rt: &impl Abort,
     mut receiver: R,

@@ -147,7 +147,7 @@ impl Unit {
         self.row().nanoseconds.is_none()
     }
 
-    // The order of the units: whether this one is no larger than the other. Units have no operators.
+    // The order of the units: whether this one is no larger than the other. The order is no operator.
     pub fn at_most(self, other: Unit) -> bool
         ensures { result ≡ nat_le (code self) (code other) }
     {

@@ -25,8 +25,8 @@ impl SignedDuration {
         Some(SignedDuration::from_secs(secs))
     }
 
-    // From here on the names are the source's, each a line over what is above. Exact, as are the
-    // next three.
+    // From here on the names are the source's, each but the first a line over what is above. Exact,
+    // as are the next three.
     pub fn from_secs(secs: i64) -> SignedDuration
         ensures { total result ≡ secs *ℤ pos (ns Second) }
     {
