@@ -1,9 +1,9 @@
 // Signed durations of whole nanoseconds: seconds and nanoseconds of one sign, and no wider number.
 #![tactic(auto)]
 
-mod fine_unit;
-mod ratios;
+mod cutting;
 mod signed_duration;
+mod sizes;
 #[cfg(test)]
 mod tests;
 

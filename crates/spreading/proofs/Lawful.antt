@@ -110,7 +110,7 @@ module _ (ms ks : List ℕ) (f : ℕ) (s : TimeUnit) where
         (time_of 0 xs ∙ v.total ∙ sym (held_from 0))
         (λ k. rw (time_of k xs, held_from k) (v.lower k))
 
-    pub lawful : Spreads ms ks f s
+    lawful : Spreads ms ks f s
     lawful = record {
       within = limited;
       balanced = rw (← time_of 0 (kept ls), ← held_from 0) (balanced ls);
@@ -123,8 +123,12 @@ module _ (ms ks : List ℕ) (f : ℕ) (s : TimeUnit) where
     stayed : left ls ≡ 0 → Serves ms ks f s (kept ls)
     stayed z = record { within = λ k h. lawful.within k; total = omega (arith, lawful.balanced, z); lower = lawful.lower }
 
-    pub chosen : (r : Option (List ℕ)) → r ≡ spread ms ks f s → Best ms ks f s r
+    chosen : (r : Option (List ℕ)) → r ≡ spread ms ks f s → Best ms ks f s r
     chosen r is = elim (cases_eq (left ls) 0) [
       | inl z ↦ rw (is, eq-eqb (left ls) 0 z) (stayed z)
       | inr n ↦ rw (is, ne_eqb (left ls) 0 n) (λ xs v. n (served xs v))
     ]
+
+    -- an answer that equals its definition keeps the laws
+    pub told : (r : Option (List ℕ)) → r ≡ spread ms ks f s → record { value : r ≡ spread ms ks f s; best : Best ms ks f s r; laws : Spreads ms ks f s }
+    told r is = record { value = is; best = chosen r is; laws = lawful }

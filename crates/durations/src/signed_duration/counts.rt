@@ -5,8 +5,8 @@ ghost use Rattle.units.specs.declared.unit.Unit.TheVariants.{Nanosecond, Microse
 ghost use Rattle.durations.specs.Totals.{total, Exact};
 
 use super::SignedDuration;
-use crate::fine_unit::{FineUnit, WholeUnit};
-use crate::ratios::*;
+use crate::cutting::cut;
+use crate::sizes::*;
 
 impl SignedDuration {
     // So many units smaller than a second.

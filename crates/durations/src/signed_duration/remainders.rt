@@ -5,8 +5,8 @@ ghost use Rattle.units.specs.declared.unit.Unit.TheVariants.{Microsecond, Millis
 ghost use Rattle.durations.specs.Totals.{total, Split, Counted, Cuts};
 
 use super::SignedDuration;
-use crate::fine_unit::{FineUnit, WholeUnit};
-use crate::ratios::*;
+use crate::cutting::{cut, times_plus};
+use crate::sizes::*;
 
 impl SignedDuration {
     // The units of whole seconds, and what is left.

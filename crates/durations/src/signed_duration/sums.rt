@@ -5,7 +5,7 @@ ghost use Rattle.units.specs.declared.unit.Unit.TheVariants.{Second};
 ghost use Rattle.durations.specs.Totals.{total, Exact};
 
 use super::SignedDuration;
-use crate::ratios::cut;
+use crate::cutting::cut;
 
 const NANOS_PER_SEC: i32 = units::NANOS_PER_SEC as i32;
 

@@ -11,11 +11,11 @@ use Rattle.units.specs.declared.unit.Unit.{Unit as TimeUnit}
 use Rattle.units.specs.declared.unit.Unit.TheVariants.{Nanosecond}
 use Rattle.units.specs.Table.{calendar}
 use Rattle.units.specs.Times.{clock_units}
-use Rattle.spreading.specs.Spreading.{level, levels, left, kept, spread}
+use Rattle.spreading.specs.Spreading.{level, levels, left, kept}
 use Rattle.spreading.specs.Steps.{seen}
 use Rattle.spreading.proofs.Clock.{six, little_room}
 use Rattle.spreading.proofs.Descending.{turn, next_level, too_long}
-use Rattle.spreading.proofs.Lawful.{chosen, lawful}
+use Rattle.spreading.proofs.Lawful.{told}
 use Rattle.spreading.proofs.Mapping.{made}
 use Rattle.spreading.proofs.spreading.spread.Goals as goal
 
@@ -91,12 +91,7 @@ returns-in_err-kept c =
     let six : length ks ≡ 6 = search rules in
     let here = next_level seen (iter_rest (enumerate_source (rev_source c.next.new.self))) c.in-Some.level.now ls (rw step.1.0 at inv.to_go) in
     let lost : left ls ≢ 0 = too_long ls _ _ _ _ (little_room ms ks a.fraction a.smallest a.limits.now.lawful) here.0 (rw step.1.0 at inv.on) c.in_err-kept.ensures in
-    let value : c.from_residual.result ≡ spread ms ks a.fraction a.smallest = grind (arith, nat_tests) in
-    record {
-      value = value;
-      best = chosen ms ks a.fraction a.smallest six _ value;
-      laws = lawful ms ks a.fraction a.smallest six;
-    }
+    told ms ks a.fraction a.smallest six _ (grind (arith, nat_tests))
 
 pub returns : goal.returns
 returns c =
@@ -109,9 +104,4 @@ returns c =
     let six : length ks ≡ 6 = search rules in
     let stay : c.loop-place.kept ≡ kept ls = rw none at inv.stay in
     let on : as_nanos c.loop-place.passed ≡ left ls = rw none at inv.on in
-    let value : c.then_some.result ≡ spread ms ks a.fraction a.smallest = grind (arith, nat_tests) in
-    record {
-      value = value;
-      best = chosen ms ks a.fraction a.smallest six _ value;
-      laws = lawful ms ks a.fraction a.smallest six;
-    }
+    told ms ks a.fraction a.smallest six _ (grind (arith, nat_tests))

@@ -1,35 +1,8 @@
-// The units of the table that a duration is counted by, and counts cut by them.
+// Counts cut by a size, and put together again.
 ghost use Rattle.std.specs.Prelude.{◌≡◌, ◌+◌, ◌<◌, pos, ◌+ℤ◌, ◌*ℤ◌, ◌≤ℤ◌, ◌<ℤ◌, MatchOption, int_div, int_rem, unsigned_abs};
 ghost use Rattle.units.specs.Table.{ns};
 ghost use Rattle.units.specs.declared.unit.Unit.TheVariants.{Second};
 ghost use Rattle.durations.specs.Totals.{Count};
-
-use crate::fine_unit::{FineUnit, WholeUnit};
-
-pub(crate) const MILLISECOND: FineUnit = FineUnit {
-    per_sec: units::MILLIS_PER_SEC as i64,
-    nanos: units::NANOS_PER_MILLI as i32,
-};
-
-pub(crate) const MICROSECOND: FineUnit = FineUnit {
-    per_sec: units::MICROS_PER_SEC as i64,
-    nanos: units::NANOS_PER_MICRO as i32,
-};
-
-pub(crate) const NANOSECOND: FineUnit = FineUnit {
-    per_sec: units::NANOS_PER_SEC as i64,
-    nanos: 1,
-};
-
-pub(crate) const SECOND: WholeUnit = WholeUnit { secs: 1 };
-
-pub(crate) const MINUTE: WholeUnit = WholeUnit {
-    secs: units::SECS_PER_MINUTE as i64,
-};
-
-pub(crate) const HOUR: WholeUnit = WholeUnit {
-    secs: units::SECS_PER_HOUR as i64,
-};
 
 // The whole parts of a size in a count, cut toward zero, and what is left of the count.
 pub(crate) fn cut(count: i64, size: i64) -> (i64, i32)

@@ -19,3 +19,28 @@ pub(crate) struct WholeUnit {
     ghost some: { pos 0 <ℤ secs },
     ghost few: { secs ≤ℤ pos (ns Second) },
 }
+
+pub(crate) const MILLISECOND: FineUnit = FineUnit {
+    per_sec: units::MILLIS_PER_SEC as i64,
+    nanos: units::NANOS_PER_MILLI as i32,
+};
+
+pub(crate) const MICROSECOND: FineUnit = FineUnit {
+    per_sec: units::MICROS_PER_SEC as i64,
+    nanos: units::NANOS_PER_MICRO as i32,
+};
+
+pub(crate) const NANOSECOND: FineUnit = FineUnit {
+    per_sec: units::NANOS_PER_SEC as i64,
+    nanos: 1,
+};
+
+pub(crate) const SECOND: WholeUnit = WholeUnit { secs: 1 };
+
+pub(crate) const MINUTE: WholeUnit = WholeUnit {
+    secs: units::SECS_PER_MINUTE as i64,
+};
+
+pub(crate) const HOUR: WholeUnit = WholeUnit {
+    secs: units::SECS_PER_HOUR as i64,
+};
