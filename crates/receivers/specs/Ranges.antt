@@ -3,12 +3,14 @@
 --     unsigned_ends    those of an unsigned duration
 --     run_ends         those of a run counter
 --     unsigned_total d the total of an unsigned duration
+--     run_total c      the total of a run counter
 use Rattle.std.specs.Prelude.{◌-◌, ◌*◌, ◌^◌, ℤ, pos, neg_ℤ}
 use Rattle.std.specs.Duration.{as_nanos}
 use Rattle.std.specs.declared.time.Duration.{Duration}
 use Rattle.units.specs.declared.unit.Unit.TheVariants.{Second}
 use Rattle.units.specs.Table.{ns}
 use Rattle.durations.specs.Totals.{lowest_total, highest_total}
+use Rattle.receivers.specs.declared.run_counter.RunCounter.{RunCounter}
 use Rattle.receivers.specs.Takes.{Ends}
 
 abbrev pub signed_ends : Ends
@@ -22,3 +24,6 @@ run_ends = record { lowest_total = neg_ℤ (pos (2 ^ 63)); highest_total = pos (
 
 abbrev pub unsigned_total : Duration → ℤ
 unsigned_total d = pos (as_nanos d)
+
+abbrev pub run_total : RunCounter → ℤ
+run_total c = c.nanos

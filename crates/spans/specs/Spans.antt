@@ -4,6 +4,7 @@
 --     zero                 the span that is wholly zero
 --     of_magnitudes ms s z the magnitudes ms with their bits, and with the sign of s once the value z is set in it
 --     with_value s u z     the span s with the value z at the unit u, or SpanLimitPassed where its magnitude passes the limit of u
+--     Sets s u z r         r is the span s with the value z at the unit u, or the refusal
 --     clock_total s        the signed time of its clock magnitudes, in nanoseconds
 --     same a b             the spans a and b have the same magnitudes and the same sign
 --     Sameness             spans are the same exactly when all that they show is equal
@@ -11,6 +12,7 @@
 use Rattle.std.specs.Prelude.{◌≡◌, ℕ, ◌≤◌, Bool, not, List, replicate, ℤ, Result, ◌==◌, nat_lt, slice_index, slice_set, unsigned_abs}
 use Rattle.std.specs.Bool.{Decides}
 use Rattle.std.specs.Ordering.{eq_of_both, on}
+use Rattle.std.specs.Result.{result_map_both}
 use Rattle.std.specs.Cmp.Lexicographic.{pointwise}
 use Rattle.units.specs.declared.fault.Fault.{Fault}
 use Rattle.units.specs.declared.fault.Fault.TheVariants.{SpanLimitPassed}
@@ -22,7 +24,7 @@ use Rattle.units.specs.Signs.{signed, is_negative}
 use Rattle.units.specs.Table.{code, span_limit}
 use Rattle.units.specs.Times.{time_from}
 use Rattle.spans.specs.declared.span.Span.{Span}
-use Rattle.spans.specs.Bits.{bit, one_if, bits_of}
+use Rattle.spans.specs.Bits.{bit, one_if, bits_of, number}
 use Rattle.spans.specs.Magnitudes.{all_zero, is_zero, side, sign_after}
 
 pub record Shown : Type 0 where
@@ -31,7 +33,7 @@ pub record Shown : Type 0 where
   pub bits : ℕ
 
 abbrev pub shown : Span → Shown
-shown s = record { magnitudes = s.magnitudes; sign = s.sign; bits = s.units.bits }
+shown s = record { magnitudes = s.magnitudes; sign = s.sign; bits = number s.units }
 
 abbrev pub zero : Shown
 zero = record { magnitudes = replicate 10 0; sign = Zero; bits = 0 }
@@ -41,6 +43,9 @@ of_magnitudes ms s z = record { magnitudes = ms; sign = sign_after s.sign (all_z
 
 abbrev pub with_value : Shown → TimeUnit → ℤ → Result Shown Fault
 with_value s u z = unless_refused (when (nat_lt (span_limit u) (unsigned_abs z)) SpanLimitPassed) (of_magnitudes (slice_set s.magnitudes (code u) (unsigned_abs z)) s z)
+
+abbrev pub Sets : Span → TimeUnit → ℤ → Result Span Fault → Type 0
+Sets s u z r = result_map_both shown (λ f. f) r ≡ with_value (shown s) u z
 
 abbrev pub clock_total : Span → ℤ
 clock_total s = signed (is_negative s.sign) (time_from 0 s.magnitudes)
@@ -55,6 +60,6 @@ pub record Told (s : Span) : Type 0 where
   -- no magnitude passes its limit
   pub within : (u : TimeUnit) → slice_index s.magnitudes (code u) ≤ span_limit u
   -- the bit of a unit is 1 exactly where its magnitude is not 0
-  pub bits : (u : TimeUnit) → bit s.units.bits (code u) ≡ one_if (not (slice_index s.magnitudes (code u) == 0))
+  pub bits : (u : TimeUnit) → bit (number s.units) (code u) ≡ one_if (not (slice_index s.magnitudes (code u) == 0))
   -- the sign is Zero exactly when all magnitudes are 0
   pub sign : is_zero s.sign ≡ all_zero s.magnitudes

@@ -6,7 +6,7 @@ mod setters;
 
 ghost use Rattle.std.specs.Prelude.{◌≡◌};
 ghost use Rattle.units.specs.Limits.{span_limits, UpTo};
-ghost use Rattle.spans.specs.Bits.{bits_of};
+ghost use Rattle.spans.specs.Bits.{bits_of, number};
 ghost use Rattle.spans.specs.Magnitudes.{all_zero, is_zero};
 
 use crate::unit_set::UnitSet;
@@ -19,6 +19,6 @@ pub struct Span {
     units: UnitSet,
     // What every span keeps; callers learn it from `units`.
     ghost within: { UpTo magnitudes span_limits },
-    ghost told: { units.bits ≡ bits_of magnitudes },
+    ghost told: { number units ≡ bits_of magnitudes },
     ghost signed: { is_zero sign ≡ all_zero magnitudes },
 }

@@ -2,7 +2,7 @@
 ghost use Rattle.std.specs.Prelude.{◌≡◌, ◌<◌, ◌==◌, ◌≢◌};
 ghost use Rattle.units.specs.Table.{code};
 ghost use Rattle.units.specs.declared.unit.Unit.{Unit as TimeUnit};
-ghost use Rattle.spans.specs.Bits.{bit, one_if, with_bit};
+ghost use Rattle.spans.specs.Bits.{bit, one_if, with_bit, number};
 
 use units::Unit;
 
@@ -30,19 +30,19 @@ fn put(bits: u16, unit: Unit, present: bool) -> u16
 
 impl UnitSet {
     pub fn new() -> UnitSet
-        ensures { result.bits ≡ 0 }
+        ensures { number result ≡ 0 }
     {
         UnitSet { bits: 0 }
     }
 
     pub fn is_empty(self) -> bool
-        ensures { result ≡ (self.bits == 0) }
+        ensures { result ≡ (number self == 0) }
     {
         self.bits == 0
     }
 
     pub fn contains(self, unit: Unit) -> bool
-        ensures { result ≡ (bit self.bits (code unit) == 1) }
+        ensures { result ≡ (bit (number self) (code unit) == 1) }
     {
         (self.bits >> place(unit)) % 2 == 1
     }
@@ -50,9 +50,9 @@ impl UnitSet {
     // The set with the unit in it or not, and every other unit as before.
     #[tactic(auto, using(crate::proofs::Bitwise::bit_here, crate::proofs::Bitwise::bit_elsewhere, crate::proofs::Units::apart))]
     pub fn set(self, unit: Unit, present: bool) -> UnitSet
-        ensures value { result.bits ≡ with_bit self.bits (code unit) present }
-        ensures here { bit result.bits (code unit) ≡ one_if present }
-        ensures elsewhere { (v : TimeUnit) → (v ≢ unit) → bit result.bits (code v) ≡ bit self.bits (code v) }
+        ensures value { number result ≡ with_bit (number self) (code unit) present }
+        ensures here { bit (number result) (code unit) ≡ one_if present }
+        ensures elsewhere { (v : TimeUnit) → (v ≢ unit) → bit (number result) (code v) ≡ bit (number self) (code v) }
     {
         UnitSet {
             bits: put(self.bits, unit, present),

@@ -1,3 +1,4 @@
+pub mod ClockLimits
 pub mod Laws
 pub mod Spreading
 pub mod Steps

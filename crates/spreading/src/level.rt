@@ -27,6 +27,7 @@ fn parts(secs: u64, per_sec: u64, rest: u32, limit: u64) -> u64
 }
 
 impl Level {
+    ghost use Rattle.spreading.specs.ClockLimits.{limits_of};
     ghost use Rattle.spreading.specs.Spreading.{level};
     ghost use Rattle.spreading.specs.Steps.{seen, Settles};
 
@@ -39,7 +40,7 @@ impl Level {
         limits: &ClockLimits,
     ) -> Level
         requires { calendar unit ≡ false }
-        ensures { seen result ≡ level limits.now.limits counts.now fraction smallest unit }
+        ensures { seen result ≡ level (limits_of limits.now) counts.now fraction smallest unit }
     {
         let code = usize::from(unit.code());
         Level {

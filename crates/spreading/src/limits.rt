@@ -23,9 +23,11 @@ fn lawful(limits: &[u64; 6]) -> bool
 }
 
 impl ClockLimits {
+    ghost use Rattle.spreading.specs.ClockLimits.{limits_of};
+
     // The limits of the table.
     pub fn table() -> ClockLimits
-        ensures { result.limits ≡ clock_limits }
+        ensures { limits_of result ≡ clock_limits }
     {
         ClockLimits {
             limits: Unit::CLOCK.map(|unit| unit.span_limit()),
@@ -34,7 +36,7 @@ impl ClockLimits {
 
     // Limits by unit code, absent exactly when one is above the table's.
     pub fn new(limits: [u64; 6]) -> Option<ClockLimits>
-        ensures { MatchOption result (UpTo limits clock_limits → ⊥) (λ l. UpTo limits clock_limits × (l.limits ≡ limits)) }
+        ensures { MatchOption result (UpTo limits clock_limits → ⊥) (λ l. UpTo limits clock_limits × (limits_of l ≡ limits)) }
     {
         if lawful(&limits) {
             Some(ClockLimits { limits })
@@ -46,7 +48,7 @@ impl ClockLimits {
     // The limit of the clock unit of a code.
     pub(crate) fn at(&self, code: usize) -> u64
         requires { code < 6 }
-        ensures { result ≡ slice_index self.now.limits code }
+        ensures { result ≡ slice_index (limits_of self.now) code }
     {
         self.limits[code]
     }

@@ -1,5 +1,6 @@
 // Spreading, from the largest clock unit to the smallest.
 ghost use Rattle.std.specs.Prelude.{◌≡◌};
+ghost use Rattle.spreading.specs.ClockLimits.{limits_of};
 ghost use Rattle.spreading.specs.Laws.{Best, Spreads};
 ghost use Rattle.spreading.specs.Spreading.{spread};
 
@@ -17,9 +18,9 @@ pub fn spread(
     smallest: Unit,
     limits: &ClockLimits,
 ) -> Option<[u64; 6]>
-    ensures value { result ≡ spread limits.now.limits counts.now fraction smallest }
-    ensures best { Best limits.now.limits counts.now fraction smallest result }
-    ensures laws { Spreads limits.now.limits counts.now fraction smallest }
+    ensures value { result ≡ spread (limits_of limits.now) counts.now fraction smallest }
+    ensures best { Best (limits_of limits.now) counts.now fraction smallest result }
+    ensures laws { Spreads (limits_of limits.now) counts.now fraction smallest }
 {
     let levels = Unit::CLOCK.map(|unit| Level::new(unit, counts, fraction, smallest, limits));
     let mut kept = [0; 6];

@@ -1,6 +1,7 @@
 // The zero span, and what a span holds.
 ghost use Rattle.std.specs.Prelude.{◌≡◌, slice_index};
 ghost use Rattle.units.specs.Table.{code};
+ghost use Rattle.spans.specs.Bits.{number};
 ghost use Rattle.spans.specs.Spans.{shown, zero, Told};
 
 use super::Span;
@@ -19,7 +20,7 @@ impl Span {
     }
 
     pub fn sign(&self) -> Sign
-        ensures { result ≡ self.now.sign }
+        ensures { result ≡ (shown self.now).sign }
     {
         self.sign
     }
@@ -27,14 +28,14 @@ impl Span {
     // The units whose magnitudes are not 0.
     #[tactic(auto, using(crate::proofs::Units::told))]
     pub fn units(&self) -> UnitSet
-        ensures value { result ≡ self.now.units }
+        ensures value { number result ≡ (shown self.now).bits }
         ensures told { Told self.now }
     {
         self.units
     }
 
     pub fn magnitude(&self, unit: Unit) -> u64
-        ensures { result ≡ slice_index self.now.magnitudes (code unit) }
+        ensures { result ≡ slice_index (shown self.now).magnitudes (code unit) }
     {
         self.magnitudes[place(unit)]
     }

@@ -1,11 +1,10 @@
 // The setters of a span: each takes a span and a value at one unit, and gives the span with it.
 ghost use Rattle.std.specs.Prelude.{◌≡◌, ◌<◌, ◌≤◌, MatchResult, unsigned_abs};
-ghost use Rattle.std.specs.Result.{result_map_both};
 ghost use Rattle.units.specs.Table.{span_limit};
 ghost use Rattle.units.specs.declared.fault.Fault.TheVariants.{SpanLimitPassed};
 ghost use Rattle.units.specs.declared.unit.Unit.TheVariants.{Nanosecond, Microsecond, Millisecond, Second, Minute, Hour, Day, Week, Month, Year};
 ghost use Rattle.spans.specs.Magnitudes.{sign_after};
-ghost use Rattle.spans.specs.Spans.{shown, with_value};
+ghost use Rattle.spans.specs.Spans.{Sets};
 
 use super::Span;
 use crate::unit_set::place;
@@ -40,7 +39,7 @@ fn sign_after(sign: Sign, all_zero: bool, value: i64) -> Sign
 
 impl Span {
     fn try_unit(self, unit: Unit, value: i64) -> Result<Span, Fault>
-        ensures { result_map_both shown (λ f. f) result ≡ with_value (shown self) unit value }
+        ensures { Sets self unit value result }
     {
         let magnitude = limited(unit, value)?;
         let mut magnitudes = self.magnitudes;
@@ -56,61 +55,61 @@ impl Span {
 
     // The source's names, each a line over the setter of any unit.
     pub fn try_years(self, years: i64) -> Result<Span, Fault>
-        ensures { result_map_both shown (λ f. f) result ≡ with_value (shown self) Year years }
+        ensures { Sets self Year years result }
     {
         self.try_unit(Unit::Year, years)
     }
 
     pub fn try_months(self, months: i64) -> Result<Span, Fault>
-        ensures { result_map_both shown (λ f. f) result ≡ with_value (shown self) Month months }
+        ensures { Sets self Month months result }
     {
         self.try_unit(Unit::Month, months)
     }
 
     pub fn try_weeks(self, weeks: i64) -> Result<Span, Fault>
-        ensures { result_map_both shown (λ f. f) result ≡ with_value (shown self) Week weeks }
+        ensures { Sets self Week weeks result }
     {
         self.try_unit(Unit::Week, weeks)
     }
 
     pub fn try_days(self, days: i64) -> Result<Span, Fault>
-        ensures { result_map_both shown (λ f. f) result ≡ with_value (shown self) Day days }
+        ensures { Sets self Day days result }
     {
         self.try_unit(Unit::Day, days)
     }
 
     pub fn try_hours(self, hours: i64) -> Result<Span, Fault>
-        ensures { result_map_both shown (λ f. f) result ≡ with_value (shown self) Hour hours }
+        ensures { Sets self Hour hours result }
     {
         self.try_unit(Unit::Hour, hours)
     }
 
     pub fn try_minutes(self, minutes: i64) -> Result<Span, Fault>
-        ensures { result_map_both shown (λ f. f) result ≡ with_value (shown self) Minute minutes }
+        ensures { Sets self Minute minutes result }
     {
         self.try_unit(Unit::Minute, minutes)
     }
 
     pub fn try_seconds(self, seconds: i64) -> Result<Span, Fault>
-        ensures { result_map_both shown (λ f. f) result ≡ with_value (shown self) Second seconds }
+        ensures { Sets self Second seconds result }
     {
         self.try_unit(Unit::Second, seconds)
     }
 
     pub fn try_milliseconds(self, milliseconds: i64) -> Result<Span, Fault>
-        ensures { result_map_both shown (λ f. f) result ≡ with_value (shown self) Millisecond milliseconds }
+        ensures { Sets self Millisecond milliseconds result }
     {
         self.try_unit(Unit::Millisecond, milliseconds)
     }
 
     pub fn try_microseconds(self, microseconds: i64) -> Result<Span, Fault>
-        ensures { result_map_both shown (λ f. f) result ≡ with_value (shown self) Microsecond microseconds }
+        ensures { Sets self Microsecond microseconds result }
     {
         self.try_unit(Unit::Microsecond, microseconds)
     }
 
     pub fn try_nanoseconds(self, nanoseconds: i64) -> Result<Span, Fault>
-        ensures { result_map_both shown (λ f. f) result ≡ with_value (shown self) Nanosecond nanoseconds }
+        ensures { Sets self Nanosecond nanoseconds result }
     {
         self.try_unit(Unit::Nanosecond, nanoseconds)
     }
