@@ -4,7 +4,7 @@
 --     zero                 the span that is wholly zero
 --     of_magnitudes ms s z the magnitudes ms with their bits, and with the sign of s once the value z is set in it
 --     with_value s u z     the span s with the value z at the unit u, or SpanLimitPassed where its magnitude passes the limit of u
---     Sets s u z r         r is the span s with the value z at the unit u, or the refusal
+--     Sets s u z r         r is a span that shows what with_value says of s, u and z, or its refusal
 --     clock_total s        the signed time of its clock magnitudes, in nanoseconds
 --     same a b             the spans a and b have the same magnitudes and the same sign
 --     Sameness             spans are the same exactly when all that they show is equal

@@ -104,4 +104,4 @@ returns c =
     let six : length ks ≡ 6 = search rules in
     let stay : c.loop-place.kept ≡ kept ls = rw none at inv.stay in
     let on : as_nanos c.loop-place.passed ≡ left ls = rw none at inv.on in
-    told ms ks a.fraction a.smallest six _ (grind (arith, nat_tests))
+    told ms ks a.fraction a.smallest six _ (rw (← stay, ← on) c.unless_left_over.ensures)
